@@ -2,8 +2,9 @@
 #![tactic(auto)]
 
 use codes::limits;
+use evaluator_rules::Ending;
+use reader_rules::Refusal;
 use std::io;
-use words::word;
 
 // Words of the areas.
 const DICTIONARY: usize = limits::DICTIONARY_AREA_WORDS;
@@ -46,29 +47,24 @@ const SEVEN: [u32; 5] = [1, 3, 2, 1, 7];
 
 const EMPTY_SET: [u32; 5] = [1, 3, 2, 3, 0];
 
-fn show_refused(rt: &impl Print, number: u32, place: u32) -> io::Result<()> {
-    println!(rt; "refused {number} at {place}")
-}
-
-fn show_reading(rt: &impl Print, finding: reader_rules::Reading) -> io::Result<()> {
+fn show_reading(rt: &impl Print, finding: Result<(), Refusal>) -> io::Result<()> {
     match finding {
-        reader_rules::Reading::Readable => println!(rt; "readable"),
-        reader_rules::Reading::Refused { number, place } => show_refused(rt, number, place),
+        Ok(()) => println!(rt; "readable"),
+        Err(refusal) => println!(rt; "{refusal}"),
     }
 }
 
 // Printed by the print call.
-fn show_finding(rt: &impl Print, finding: checker_rules::Finding, dict: &[u32]) -> io::Result<()> {
+fn show_finding(rt: &impl Print, finding: Result<(), Refusal>, dict: &[u32]) -> io::Result<()> {
     let mut out = [0u8; OUTPUT];
     let n = printer::print_finding(finding, dict, &mut out);
     rt.write_all(&out[..n])
 }
 
-fn show_run(rt: &impl Print, finding: evaluator_rules::Finding) -> io::Result<()> {
+fn show_run(rt: &impl Print, finding: Result<Ending, Refusal>) -> io::Result<()> {
     match finding {
-        evaluator_rules::Finding::Holds => println!(rt; "holds"),
-        evaluator_rules::Finding::Fails { node } => println!(rt; "fails at {node}"),
-        evaluator_rules::Finding::Refused { number, place } => show_refused(rt, number, place),
+        Ok(ending) => println!(rt; "{ending}"),
+        Err(refusal) => println!(rt; "{refusal}"),
     }
 }
 
@@ -93,8 +89,7 @@ fn run(rt: &impl Print, doc: &[u32], state: &[u32]) -> io::Result<()> {
 
 fn show_words(rt: &impl Print, area: &[u32]) -> io::Result<()> {
     print!(rt; "words")?;
-    for i in 0..area.len() {
-        let w = word(area, i);
+    for w in area {
         print!(rt; " {w}")?;
     }
     println!(rt)

@@ -7,8 +7,7 @@ use lib.ListN.{length, drop, replicate, length-replicate}
 use lib.Seq.{sets, sets-eq}
 use Rattle.words.proofs.Lists.{zeros_dropped}
 use Rattle.reader_rules.specs.Reading.{read_of}
-use Rattle.reader_rules.specs.declared.Reading.{Reading}
-use Rattle.reader_rules.specs.declared.Reading.TheVariants.{Readable, Refused}
+use Rattle.reader_rules.specs.Refusals.{Finding, Readable, Refused}
 use Rattle.canonical_rules.specs.Call.{canonical_words, canonical_check_of, output_after, CanonicalCall}
 use Rattle.canonical_rules.proofs.CanonicalParts.{length_same}
 use Rattle.canonical_rules.proofs.CallFindings.{reading_first, short_exactly, written_exactly}
@@ -20,7 +19,7 @@ area_written result m l =
     let e : 0 + length result ≡ length result = omega arith in
     sets-eq result (replicate m 0) 0 (omega (arith, l, n)) ∙ ap (λ x. result ++ x) (ap (λ j. drop j (replicate m 0)) e ∙ zeros_dropped (length result) m)
 
-decided : (doc : List ℕ) (m : ℕ) (r : Reading) (output : List ℕ) → canonical_check_of doc m ≡ r → output ≡ output_after r (canonical_words doc) m → CanonicalCall doc m r output
+decided : (doc : List ℕ) (m : ℕ) (r : Finding) (output : List ℕ) → canonical_check_of doc m ≡ r → output ≡ output_after r (canonical_words doc) m → CanonicalCall doc m r output
 decided doc m r output e p = record { finding = sym e; written = p ∙ ap (λ x. output_after x (canonical_words doc) m) (sym e) }
 
 pub call_refused : (doc : List ℕ) (m number place : ℕ) (output : List ℕ) → read_of doc ≡ Refused number place → output ≡ replicate m 0 → CanonicalCall doc m (Refused number place) output

@@ -76,9 +76,6 @@ left_end doc w n i end order whole last l h =
 pub left_start : (doc w : List ℕ) (n at : ℕ) (order : List ℕ) → Left doc w n 1 at order (sets order at (numbers_from doc w n 1)) (at + length (numbers_from doc w n 1))
 left_start doc w n at order = record { left = refl; ends = refl }
 
-pub visit_small : (doc : List ℕ) (k at : ℕ) → Visit doc k at → k ≤ 1024
-visit_small doc k at v = let a = (readable doc v.read).nodes.laid.few in let b = v.most in omega (arith, a, b)
-
 -- A node of a readable document.
 module _ (doc : List ℕ) (k at : ℕ) (v : Visit doc k at) (w : List ℕ) (e : w ≡ part doc k) (n : ℕ) (c : n ≡ length w - 1) where
   pub whole_node : numbers_at doc k ≡ numbers_from doc w n 1 ++ (k ∷ [])

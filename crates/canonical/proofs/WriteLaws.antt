@@ -9,7 +9,7 @@ use Rattle.words.proofs.Lists.{sets_append}
 use Rattle.layout.specs.Layout.{count, part}
 use Rattle.reader_rules.specs.Nodes.{document_words}
 use Rattle.reader_rules.specs.Reading.{read_of}
-use Rattle.reader_rules.specs.declared.Reading.TheVariants.{Readable}
+use Rattle.reader_rules.specs.Refusals.{Readable}
 use Rattle.reader_rules.specs.Below.{numbers_at}
 use Rattle.reader_rules.specs.TreeNumbers.{node_numbers}
 use Rattle.reader_rules.specs.Decode.{tree_of}

@@ -3,7 +3,7 @@ use Rattle.std.specs.Prelude.{◌≡◌, true, List, ℕ, suc, ◌+◌, ◌≤�
 use Rattle.words.specs.Loops.{has}
 use Rattle.layout.specs.Layout.{count}
 use Rattle.reader_rules.specs.Reading.{read_of}
-use Rattle.reader_rules.specs.declared.Reading.TheVariants.{Readable}
+use Rattle.reader_rules.specs.Refusals.{Readable}
 use Rattle.reader_rules.specs.Below.{numbers_at}
 use Rattle.canonical_rules.specs.Positions.{index_of, Distinct}
 

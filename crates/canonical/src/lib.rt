@@ -3,7 +3,7 @@
 
 use codes::findings;
 use codes::limits::NODES;
-use reader_rules::Reading;
+use reader_rules::Refusal;
 use words::{clear, span, store, word};
 
 mod order;
@@ -12,7 +12,7 @@ mod rows;
 ghost use Rattle.std.specs.Prelude.{◌≡◌, length, replicate};
 ghost use Rattle.std.proofs.lemmas.List.Edits.{sets};
 ghost use Rattle.reader_rules.specs.Reading.{read_of};
-ghost use Rattle.reader_rules.specs.declared.Reading.TheVariants.{Readable};
+ghost use Rattle.reader_rules.specs.Refusals.{Readable};
 ghost use Rattle.canonical_rules.specs.Call.{canonical_words, CanonicalCall};
 
 // The places of a table of nodes, which are numbered from 1.
@@ -34,32 +34,26 @@ fn write(doc: &[u32], output: &mut [u32])
 }
 
 // A readable document, with an output area of zeros: 27, or written there.
-fn write_where_room(doc: &[u32], output: &mut [u32]) -> Reading
+fn write_where_room(doc: &[u32], output: &mut [u32]) -> Result<(), Refusal>
     requires { (read_of doc.now ≡ Readable) × (output.old ≡ replicate (length output.old) 0) }
     ensures { CanonicalCall doc.now (length output.old) result output.new }
 {
     if output.len() < doc.len() {
-        return Reading::Refused {
+        return Err(Refusal {
             number: findings::OUTPUT_AREA,
             place: 0,
-        };
+        });
     }
     write(doc, output);
-    Reading::Readable
+    Ok(())
 }
 
 // Writes a document in the one coding: reading's finding first, then 27 at 0 where the output area is too short. The area holds the result and zeros
 // after it, after a refusal zeros.
-pub fn canonical(doc: &[u32], output: &mut [u32]) -> Reading
+pub fn canonical(doc: &[u32], output: &mut [u32]) -> Result<(), Refusal>
     ensures { CanonicalCall doc.now (length output.old) result output.new }
 {
     clear(output);
-    let first = reader::read(doc);
-    match first {
-        Reading::Readable => write_where_room(doc, output),
-        Reading::Refused { number, place } => Reading::Refused {
-            number: number,
-            place: place,
-        },
-    }
+    reader::read(doc)?;
+    write_where_room(doc, output)
 }

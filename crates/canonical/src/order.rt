@@ -18,12 +18,10 @@ pub fn visit(doc: &[u32], k: usize, order: &mut [u32], at: usize) -> usize
     let w = part(doc, k);
     let n = operand_count(w);
     let mut end = at;
-    let mut i = 1;
-    while i < n + 1 {
+    for i in 1..n + 1 {
         if sorts::LAST_PLAIN < sort_at(w, i) {
             end = visit(doc, word(w, i), order, end);
         }
-        i += 1;
     }
     store(order, end, k as u32);
     end + 1
@@ -34,10 +32,7 @@ pub fn number(nodes: &[u32], numbers: &mut [u32])
     requires { Numberable nodes.now (length numbers.old) }
     ensures { Numbers nodes.now numbers.new }
 {
-    let n = nodes.len();
-    let mut i = 0;
-    while i < n {
-        store(numbers, word(nodes, i), (i + 1) as u32);
-        i += 1;
+    for (i, k) in nodes.iter().enumerate() {
+        store(numbers, *k as usize, (i + 1) as u32);
     }
 }

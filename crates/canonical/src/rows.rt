@@ -28,12 +28,9 @@ fn put_row(w: &[u32], numbers: &[u32], output: &mut [u32], at: usize)
     requires { (1 ≤ length w.now) × (at + length w.now ≤ document_words) }
     ensures { output.new ≡ sets output.old at (map_row (table_at numbers.now) w.now) }
 {
-    let n = w.len();
     store(output, at, word(w, 0) as u32);
-    let mut i = 1;
-    while i < n {
+    for i in 1..w.len() {
         store(output, at + i, new_operand(w, numbers, i) as u32);
-        i += 1;
     }
 }
 
@@ -42,16 +39,13 @@ pub fn put_pairs(doc: &[u32], nodes: &[u32], output: &mut [u32])
     requires { Fitting doc.now nodes.now }
     ensures { output.new ≡ sets output.old 1 (row_pairs (map (part doc.now) nodes.now) (1 + 2 * length nodes.now)) }
 {
-    let n = nodes.len();
-    let mut at = 1 + 2 * n;
-    let mut i = 0;
-    while i < n {
-        let w = part(doc, word(nodes, i));
+    let mut at = 1 + 2 * nodes.len();
+    for (i, k) in nodes.iter().enumerate() {
+        let w = part(doc, *k as usize);
         let len = w.len();
         store(output, 2 * i + 1, at as u32);
         store(output, 2 * i + 2, len as u32);
         at += len;
-        i += 1;
     }
 }
 
@@ -60,13 +54,10 @@ pub fn put_rows(doc: &[u32], nodes: &[u32], numbers: &[u32], output: &mut [u32])
     requires { Fitting doc.now nodes.now }
     ensures { output.new ≡ sets output.old (1 + 2 * length nodes.now) (row_words (map (λ k. map_row (table_at numbers.now) (part doc.now k)) nodes.now)) }
 {
-    let n = nodes.len();
-    let mut at = 1 + 2 * n;
-    let mut i = 0;
-    while i < n {
-        let w = part(doc, word(nodes, i));
+    let mut at = 1 + 2 * nodes.len();
+    for k in nodes {
+        let w = part(doc, *k as usize);
         put_row(w, numbers, output, at);
         at += w.len();
-        i += 1;
     }
 }

@@ -7,8 +7,9 @@ use lib.IntN.{pos}
 use lib.Dec.{leb, eqb}
 use Rattle.values.specs.Value.{Value, int, element, set, tuple, Values, nil, cons, count}
 use Rattle.values.specs.SetValues.{Image, found, misfit, undefined, apply_value, insert_value}
-use Rattle.values_integers.specs.declared.integer.Integer.{Integer}
-use Rattle.values_integers.specs.declared.integer.Integer.TheVariants.{Whole, Undefined, Outside}
+use Rattle.values_integers.specs.Integer.{Computed}
+use Rattle.std.proofs.Common.{Ok, Err}
+use Rattle.values_integers.specs.declared.integer.ArithmeticError.TheVariants.{Undefined, Outside}
 use Rattle.reader_rules.specs.Tree.{Expr, reference, number, integers, product, power, application, selection, theta, schema_set, arithmetic}
 use Rattle.reader_rules.specs.Tree.{comprehension, Exprs, none, more, Pred, truth, equal, member, at_most, not, connected, quantified, Text, text, Lines, end}
 use Rattle.reader_rules.specs.Tree.{declaration, inclusion, Include, include, exprs_length, Connective, and, or, implies}
@@ -122,11 +123,11 @@ module _ (f : ℕ → ℕ) where
   unfolding find_pair
   pair_m n a vs = image_m n (apply_value a vs)
 
-  keep_integer_m : (n : ℕ) (z : Integer) → Maps same (keep_integer n z) (keep_integer (f n) z)
+  keep_integer_m : (n : ℕ) (z : Computed) → Maps same (keep_integer n z) (keep_integer (f n) z)
   unfolding keep_integer
-  keep_integer_m n (Whole z) = keep_m n (int z)
-  keep_integer_m n Undefined = stop_m _ n
-  keep_integer_m n Outside = stop_m _ n
+  keep_integer_m n (Ok z) = keep_m n (int z)
+  keep_integer_m n (Err Undefined) = stop_m _ n
+  keep_integer_m n (Err Outside) = stop_m _ n
 
   connect_m : (o : Connective) (b : Bool) {r r' : Unit {0} → Outcome Bool} → ((u : Unit {0}) → Maps same (r u) (r' u)) → Maps same (connect o b r) (connect o b r')
   unfolding connect

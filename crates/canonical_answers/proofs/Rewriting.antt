@@ -4,7 +4,7 @@ use mathlib.Core.List.{List}
 use Prim.Native.Nat.{ℕ, ◌<◌}
 use lib.ListN.{length, get_or, take}
 use Rattle.reader_rules.specs.Reading.{read_of}
-use Rattle.reader_rules.specs.declared.Reading.TheVariants.{Readable}
+use Rattle.reader_rules.specs.Refusals.{Readable}
 use Rattle.reader_rules.specs.TreeNumbers.{node_numbers}
 use Rattle.reader_rules.specs.Decode.{tree_of}
 use Rattle.checker_rules.specs.Check.{Answer, accepted, refused, check_of}

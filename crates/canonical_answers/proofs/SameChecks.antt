@@ -9,7 +9,7 @@ use lib.ListN.{length, length-map}
 use borrow.Author.Tests.{ltb-true, ltb-false}
 use Rattle.words.specs.Loops.{has}
 use Rattle.reader_rules.specs.Reading.{read_of}
-use Rattle.reader_rules.specs.declared.Reading.TheVariants.{Readable}
+use Rattle.reader_rules.specs.Refusals.{Readable}
 use Rattle.reader_rules.specs.Tree.{Document, document, Paragraph}
 use Rattle.reader_rules.specs.TreeNumbers.{paragraphs_numbers, node_numbers}
 use Rattle.reader_rules.specs.Decode.{tree_of}

@@ -6,7 +6,7 @@ use Prim.Native.Nat.{ℕ}
 use native.Mathlib.Omega.{arith}
 use borrow.Author.Tests.{lt-ltb}
 use Rattle.reader_rules.specs.Reading.{read_of}
-use Rattle.reader_rules.specs.declared.Reading.TheVariants.{Readable}
+use Rattle.reader_rules.specs.Refusals.{Readable}
 use Rattle.reader_rules.specs.Decode.{tree_of}
 use Rattle.states_rules.specs.Names.{Name, document_names}
 use Rattle.states_rules.specs.States.{state_of, state_check_of}

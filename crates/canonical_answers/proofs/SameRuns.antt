@@ -1,4 +1,5 @@
 -- THE RUN OF TWO DOCUMENTS WITH THE SAME TREE and one state: the same list and finding, at corresponding nodes.
+use Rattle.std.specs.Prelude.{Err}
 use mathlib.Core.Path.{◌≡◌, refl, ap, sym, ◌∙◌}
 use mathlib.Core.Bool.{Bool, true, false, cond}
 use mathlib.Core.List.{List, []}
@@ -7,15 +8,13 @@ use native.Mathlib.Omega.{arith}
 use lib.Dec.{leb}
 use borrow.Author.Tests.{le-ltb, lt-ltb}
 use Rattle.reader_rules.specs.Reading.{read_of}
-use Rattle.reader_rules.specs.declared.Reading.{Reading}
-use Rattle.reader_rules.specs.declared.Reading.TheVariants.{Readable, Refused as Unreadable}
+use Rattle.reader_rules.specs.Refusals.{Finding, Readable, Refused}
 use Rattle.reader_rules.specs.Tree.{Document}
 use Rattle.reader_rules.specs.Decode.{tree_of}
 use Rattle.evaluator_rules.specs.Outcomes.{Outcome}
 use Rattle.evaluator_rules.specs.Paragraphs.{Step, onward, failed}
 use Rattle.evaluator_rules.specs.Claims.{Good, finished, ceased, Short, Trouble}
 use Rattle.evaluator_rules.specs.Run.{ran, ending, run_state, run_work_words, run_work, run_read, run_of}
-use Rattle.evaluator_rules.specs.declared.Finding.TheVariants.{Refused}
 use Rattle.evaluator_rules.proofs.StatePlace.{state_ill}
 use Rattle.evaluator_rules.proofs.RunFindings.{document_fine}
 use Rattle.states_rules.specs.Names.{document_names}
@@ -42,10 +41,10 @@ module _ (f : ℕ → ℕ) where
   ill_run n p h = ap (λ b. ran (Refused n (cond b p (f p))) []) (sym (lt-ltb n 51 h))
 
   module _ (t : Document) (state : List ℕ) where
-    state_run : (r : Reading) → state_of (document_names t) state ≡ r → run_state r (map_nodes f t) state ≡ map_run f (run_state r t state)
+    state_run : (r : Finding) → state_of (document_names t) state ≡ r → run_state r (map_nodes f t) state ≡ map_run f (run_state r t state)
     unfolding run_state
     state_run Readable e = ran_maps f t state ∙ fine_run (document_fine t (value_in (document_names t) state))
-    state_run (Unreadable n p) e = let h = ((state_ill (document_names t) state n p).0 e).0 in ill_run n p (omega arith)
+    state_run (Err err) e = let h = ((state_ill (document_names t) state err.number err.place).0 e).0 in ill_run err.number err.place (omega arith)
 
     pub work_run : (b : Bool) → run_work b (map_nodes f t) state ≡ map_run f (run_work b t state)
     unfolding run_work map_finding map_events

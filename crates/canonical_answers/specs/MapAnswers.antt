@@ -1,10 +1,10 @@
 -- Answers of the check, the fit and the run with other node numbers: f of each.
-use Rattle.std.specs.Prelude.{List, [], ◌∷◌, cond, ℕ, ltb}
+use Rattle.std.specs.Prelude.{List, [], ◌∷◌, cond, ℕ, ltb, Err}
 use Rattle.checker_rules.specs.Check.{Answer, accepted, refused}
 use Rattle.evaluator_rules.specs.Outcomes.{Event, worked}
 use Rattle.evaluator_rules.specs.Run.{Ran, ran}
-use Rattle.evaluator_rules.specs.declared.Finding.{Finding}
-use Rattle.evaluator_rules.specs.declared.Finding.TheVariants.{Holds, Fails, Refused}
+use Rattle.reader_rules.specs.Refusals.{Refused}
+use Rattle.evaluator_rules.specs.Endings.{RunFinding, Holds, Fails}
 
 module _ (f : ℕ → ℕ) where
   -- a dictionary has no node numbers; the place of a refusal is a node, or 0
@@ -18,10 +18,10 @@ module _ (f : ℕ → ℕ) where
   map_fit (refused e m) = refused e (cond (ltb e 41) (f m) m)
 
   -- the place of a failure and of 51 to 55 is a node; that of 21 is 0, that of 41 an entry of the state
-  unfoldable pub map_finding : Finding → Finding
+  unfoldable pub map_finding : RunFinding → RunFinding
   map_finding Holds = Holds
   map_finding (Fails n) = Fails (f n)
-  map_finding (Refused number place) = Refused number (cond (ltb number 51) place (f place))
+  map_finding (Err err) = Refused err.number (cond (ltb err.number 51) err.place (f err.place))
 
   unfoldable pub map_events : List Event → List Event
   map_events [] = []

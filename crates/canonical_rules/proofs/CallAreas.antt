@@ -9,7 +9,7 @@ use lib.Seq.{take_at}
 use Rattle.words.specs.Loops.{total}
 use Rattle.layout.specs.Layout.{count, length_at}
 use Rattle.reader_rules.specs.Reading.{read_of}
-use Rattle.reader_rules.specs.declared.Reading.TheVariants.{Readable}
+use Rattle.reader_rules.specs.Refusals.{Readable}
 use Rattle.reader_rules.specs.Decode.{tree_of}
 use Rattle.reader_rules.proofs.Accepted.{readable}
 use Rattle.reader_rules.proofs.Occurrences.{total_same}

@@ -18,7 +18,7 @@ use Rattle.reader_rules.specs.Kinds.{cell, sort_in, sort_at, between, is_node_so
 use Rattle.reader_rules.specs.Nodes.{document_form, kind_at, operand_at, children, parent, above}
 use Rattle.reader_rules.specs.Repeats.{first_operand, declared, is_axiom_decl, globals, declared_in, parameters, schemas}
 use Rattle.reader_rules.specs.Reading.{read_of}
-use Rattle.reader_rules.specs.declared.Reading.TheVariants.{Readable}
+use Rattle.reader_rules.specs.Refusals.{Readable}
 use Rattle.reader_rules.specs.Decode.{tree_of}
 use Rattle.reader_rules.proofs.Accepted.{Sound, Nodes, Document, readable, used_once, last_document, some_words}
 use Rattle.reader_rules.proofs.Occurrences.{AllIn, all_in_has}

@@ -16,7 +16,7 @@ use Rattle.reader_rules.specs.Kinds.{cell, listed, sort_in, sort_at, count_row, 
 use Rattle.reader_rules.specs.Nodes.{kind_at, nodes_among, children, uses}
 use Rattle.reader_rules.specs.Findings.{plain_at, plain_words, lower_ok, lower_at, lower_nodes, use_number}
 use Rattle.reader_rules.specs.Reading.{read_of}
-use Rattle.reader_rules.specs.declared.Reading.TheVariants.{Readable}
+use Rattle.reader_rules.specs.Refusals.{Readable}
 use Rattle.reader_rules.proofs.Accepted.{Sound, Document, readable, operand, used_once, last_document, some_words}
 use Rattle.reader_rules.proofs.Scan.{cond_zero}
 use Rattle.reader_rules.proofs.TreeShape.{all_at}

@@ -15,7 +15,7 @@ use Rattle.layout.specs.Layout.{count, offset_at, length_at, chain, laid_out, pa
 use Rattle.layout.proofs.Laws.{part_length}
 use Rattle.reader_rules.specs.Nodes.{document_form}
 use Rattle.reader_rules.specs.Reading.{read_of}
-use Rattle.reader_rules.specs.declared.Reading.TheVariants.{Readable}
+use Rattle.reader_rules.specs.Refusals.{Readable}
 use Rattle.reader_rules.specs.TreeNumbers.{node_numbers}
 use Rattle.reader_rules.specs.Decode.{tree_of}
 use Rattle.reader_rules.proofs.Accepted.{readable}

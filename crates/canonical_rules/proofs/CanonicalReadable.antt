@@ -17,7 +17,7 @@ use Rattle.reader_rules.specs.Findings.{node_number, use_number}
 use Rattle.reader_rules.specs.Repeats.{fresh, written_before, repeats_in, declared, globals, declared_in, parameters, schemas, repeats, repeat_number}
 use Rattle.reader_rules.specs.Limits.{texts_among, declared_up_to, is_closing, below_up_to, any_crowded, globals_up_to, too_deep, too_nested, too_wide, too_crowded, too_many, limit_number}
 use Rattle.reader_rules.specs.Reading.{lowest, read_of}
-use Rattle.reader_rules.specs.declared.Reading.TheVariants.{Readable}
+use Rattle.reader_rules.specs.Refusals.{Readable}
 use Rattle.reader_rules.proofs.Accepted.{Document, readable}
 use Rattle.reader_rules.proofs.Scan.{scan_clear, cond_off}
 use Rattle.reader_rules.proofs.Occurrences.{AllIn, total_same}

@@ -10,7 +10,7 @@ use Rattle.words.specs.Loops.{has}
 use Rattle.layout.specs.Layout.{count, part}
 use Rattle.reader_rules.specs.Kinds.{sort_at, is_node_sort}
 use Rattle.reader_rules.specs.Reading.{read_of}
-use Rattle.reader_rules.specs.declared.Reading.TheVariants.{Readable}
+use Rattle.reader_rules.specs.Refusals.{Readable}
 use Rattle.reader_rules.specs.TreeNumbers.{node_numbers}
 use Rattle.reader_rules.specs.Decode.{tree_of}
 use Rattle.reader_rules.proofs.Accepted.{readable, operand}

@@ -11,7 +11,7 @@ use Rattle.words.specs.Loops.{has}
 use Rattle.layout.specs.Layout.{count}
 use Rattle.reader_rules.specs.Nodes.{children}
 use Rattle.reader_rules.specs.Reading.{read_of}
-use Rattle.reader_rules.specs.declared.Reading.TheVariants.{Readable}
+use Rattle.reader_rules.specs.Refusals.{Readable}
 use Rattle.reader_rules.specs.Below.{flat, numbers_at}
 use Rattle.reader_rules.proofs.Accepted.{Document, readable}
 use Rattle.reader_rules.proofs.Parents.{child_lower}

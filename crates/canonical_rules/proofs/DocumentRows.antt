@@ -12,7 +12,7 @@ use Rattle.layout.specs.Layout.{count, part}
 use Rattle.reader_rules.specs.Kinds.{cell, expressions, schema_expressions, predicates, texts, lines, paragraphs, includes}
 use Rattle.reader_rules.specs.Nodes.{kind_at, operand_at}
 use Rattle.reader_rules.specs.Reading.{read_of}
-use Rattle.reader_rules.specs.declared.Reading.TheVariants.{Readable}
+use Rattle.reader_rules.specs.Refusals.{Readable}
 use Rattle.reader_rules.specs.Promise.{At, Lower}
 use Rattle.reader_rules.specs.Tree.{Expr, Exprs, none, more, Lines, end, expr_node, pred_node, text_node, include_node, schema_node, paragraph_node}
 use Rattle.reader_rules.specs.TreeNumbers.{expr_numbers, exprs_numbers, pred_numbers, text_numbers, lines_numbers, include_numbers, schema_numbers, paragraph_numbers, paragraphs_numbers, node_numbers}

@@ -11,7 +11,7 @@ use Rattle.words.proofs.Lists.{has_once}
 use Rattle.layout.specs.Layout.{count}
 use Rattle.reader_rules.specs.Kinds.{between}
 use Rattle.reader_rules.specs.Reading.{read_of}
-use Rattle.reader_rules.specs.declared.Reading.TheVariants.{Readable}
+use Rattle.reader_rules.specs.Refusals.{Readable}
 use Rattle.reader_rules.specs.Tree.{Document}
 use Rattle.reader_rules.specs.TreeNumbers.{node_numbers}
 use Rattle.reader_rules.specs.Decode.{tree_of}

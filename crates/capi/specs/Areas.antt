@@ -4,11 +4,11 @@ use Rattle.evaluator_rules.specs.Run.{run_of}
 use Rattle.checker_rules.specs.Check.{Answer}
 use Rattle.checker_rules.specs.Areas.{answer_finding, dictionary_after, work_after}
 use Rattle.canonical_rules.specs.Call.{canonical_words, canonical_check_of, output_after}
-use Rattle.capi_codes.specs.Code.{code_of, check_code, run_code}
+use Rattle.capi_codes.specs.Code.{code_of, run_code}
 
 -- the check call and the fit call, with areas of d and w words: the number of their answer, and what each area then holds
 pub record Decided (a : Answer) (d w code : ℕ) (dictionary work : List ℕ) : Type 0 where
-  pub finding : code ≡ check_code (answer_finding a)
+  pub finding : code ≡ code_of (answer_finding a)
   pub recorded : dictionary ≡ dictionary_after a d
   pub cleared : work ≡ work_after w
 

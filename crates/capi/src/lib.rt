@@ -11,7 +11,7 @@ ghost use Rattle.printer_rules.specs.Buffer.{Printed};
 ghost use Rattle.capi_codes.specs.Code.{code_of, code_finding};
 ghost use Rattle.capi.specs.Areas.{Decided, RunDecided, CanonicalDecided};
 
-use capi_codes::{check_code, code_of, finding_of, run_code};
+use capi_codes::{code_of, finding_of, run_code};
 
 // Reading: 0 where the document is readable, else one of 11 to 17 with its place.
 pub fn z_read(doc: &[u32]) -> u64
@@ -41,14 +41,14 @@ pub fn z_canonical(doc: &[u32], output: &mut [u32]) -> u64
 pub fn z_check(doc: &[u32], dict: &mut [u32], work: &mut [u32]) -> u64
     ensures { Decided (check_of doc.now (length dict.old) (length work.old)) (length dict.old) (length work.old) result dict.new work.new }
 {
-    check_code(checker::check(doc, dict, work))
+    code_of(checker::check(doc, dict, work))
 }
 
 // The check of a document, then a state against its dictionary: the check's finding first, then 41 and 42 with the entry. The areas as after a check.
 pub fn z_fit(doc: &[u32], state: &[u32], dict: &mut [u32], work: &mut [u32]) -> u64
     ensures { Decided (fit_of doc.now state.now (length dict.old) (length work.old)) (length dict.old) (length work.old) result dict.new work.new }
 {
-    check_code(fitter::fit(doc, state, dict, work))
+    code_of(fitter::fit(doc, state, dict, work))
 }
 
 // A run of a document over a state: reading's finding first, then 21, 41, and those of the paragraphs. The work area is zeros afterwards.

@@ -4,7 +4,7 @@ use Prim.Native.Nat.{ℕ, ◌+◌, ◌*◌, ◌/◌, ◌%◌, ◌<◌}
 use native.Mathlib.Omega.{arith}
 use native.Mathlib.Nat.{div-add-mod', mod-lt}
 use borrow.Author.Tests.{ne_eqb}
-use Rattle.checker_rules.specs.declared.Finding.TheVariants.{Refused}
+use Rattle.reader_rules.specs.Refusals.{Refused}
 use Rattle.capi_codes.specs.Code.{code_finding}
 
 pub refused_back : (number place : ℕ) → 0 < number → place < 4294967296 → code_finding (number * 4294967296 + place) ≡ Refused number place

@@ -8,14 +8,12 @@ use lib.ListN.{length, replicate}
 use Rattle.reader_rules.specs.Reading.{read_of}
 use Rattle.reader_rules.specs.Tree.{Document}
 use Rattle.reader_rules.specs.Decode.{tree_of}
-use Rattle.reader_rules.specs.declared.Reading.TheVariants.{Readable, Refused as Unreadable}
+use Rattle.reader_rules.specs.Refusals.{Finding, Readable, Accepted, Refused}
 use Rattle.checker_rules.specs.Areas.{answer_finding, dictionary_after, CheckCall}
 use Rattle.checker_rules.specs.Check.{Answer, accepted, refused, paragraphs_of, check_of, check_work_words}
 use Rattle.checker_rules.specs.Dictionary.{blank, dictionary_words, dictionary_length}
 use Rattle.checker_rules.specs.Items.{Any}
 use Rattle.checker_rules.specs.Verdicts.{AnswersTree, Answers}
-use Rattle.checker_rules.specs.declared.Finding.{Finding}
-use Rattle.checker_rules.specs.declared.Finding.TheVariants.{Accepted, Refused}
 use Rattle.checker_rules.proofs.CheckRight.{check_right}
 use Rattle.checker.specs.Answering.{Told, Answered, TreeAnswered}
 
@@ -47,7 +45,7 @@ module _ (doc : List ℕ) (d w : ℕ) (d' : List ℕ) where
   unfolding Answers
   words_tree r e X = told_by X.answer r (inr (e, X.answers)) X.told
 
-  pub words_unread : (f m : ℕ) → read_of doc ≡ Unreadable f m → Told (check_of doc d w) d' (Refused f m)
+  pub words_unread : (f m : ℕ) → read_of doc ≡ Refused f m → Told (check_of doc d w) d' (Refused f m)
   unfolding Answers
   words_unread f m e = told_by (refused f m) (Refused f m) (inl (f, m, e, refl)) (told_refused f m d')
 

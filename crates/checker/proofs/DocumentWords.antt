@@ -9,7 +9,7 @@ use Rattle.layout.proofs.Laws.{part_length}
 use Rattle.reader_rules.specs.Nodes.{document_words}
 use Rattle.reader_rules.specs.Reading.{read_of}
 use Rattle.reader_rules.proofs.Accepted.{readable, some_words}
-use Rattle.reader_rules.specs.declared.Reading.TheVariants.{Readable}
+use Rattle.reader_rules.specs.Refusals.{Readable}
 
 -- One word for its kind at least, and no more than the document has.
 module _ (doc : List ℕ) (r : read_of doc ≡ Readable) where

@@ -9,13 +9,12 @@ use Rattle.reader_rules.specs.Reading.{read_of}
 use Rattle.reader_rules.specs.Tree.{Paragraph}
 use Rattle.reader_rules.specs.Decode.{paragraphs_from, tree_of}
 use Rattle.reader_rules.proofs.TreeParagraph.{document_law}
-use Rattle.reader_rules.specs.declared.Reading.TheVariants.{Readable}
+use Rattle.reader_rules.specs.Refusals.{Finding, Readable}
 use Rattle.checker_rules.specs.Check.{paragraphs_of, check_work_words}
 use Rattle.checker_rules.specs.Dictionary.{blank, entries, entry_pairs, all_words, laid_out_words, dictionary_words, dictionary_length}
 use Rattle.checker_rules.specs.Items.{Any}
 use Rattle.checker_rules.specs.Verdicts.{AnswersFrom}
 use Rattle.checker_rules.specs.WellFormed.{FormedDictionary}
-use Rattle.checker_rules.specs.declared.Finding.{Finding}
 use Rattle.checker_dictionary.specs.Holds.{Holds}
 use Rattle.checker_dictionary.specs.Index.{IndexedTo}
 use Rattle.checker_dictionary.proofs.Places.{count_held}

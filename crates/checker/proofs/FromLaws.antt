@@ -16,8 +16,7 @@ use Rattle.checker_rules.specs.Dictionary.{Dictionary}
 use Rattle.checker_rules.specs.Entries.{extend}
 use Rattle.checker_rules.specs.Items.{Any}
 use Rattle.checker_rules.specs.Verdicts.{Accepts, RefusesAt, AnswersFrom}
-use Rattle.checker_rules.specs.declared.Finding.{Finding}
-use Rattle.checker_rules.specs.declared.Finding.TheVariants.{Accepted, Refused}
+use Rattle.reader_rules.specs.Refusals.{Finding, Accepted, Refused}
 use Rattle.checker_dictionary.specs.Holds.{Holds}
 use Rattle.types_instances.proofs.CleanLaws.{clean_lower}
 use Rattle.checker_lookup.specs.Scoped.{DictionaryHeld}

@@ -3,13 +3,12 @@ use Rattle.std.specs.Prelude.{◌≡◌, List, ℕ, ◌+◌, ◌*◌, ◌≤◌,
 use Rattle.layout.specs.Layout.{count, part}
 use Rattle.reader_rules.specs.Reading.{read_of}
 use Rattle.reader_rules.specs.Tree.{Paragraph, Document}
-use Rattle.reader_rules.specs.declared.Reading.TheVariants.{Readable}
+use Rattle.reader_rules.specs.Refusals.{Finding, Readable}
 use Rattle.checker_rules.specs.Areas.{answer_finding}
 use Rattle.checker_rules.specs.Check.{Answer, accepted, check_of}
 use Rattle.checker_rules.specs.Dictionary.{Dictionary, dictionary_length}
 use Rattle.checker_rules.specs.Items.{Any}
 use Rattle.checker_rules.specs.Verdicts.{AnswersFrom, AnswersTree}
-use Rattle.checker_rules.specs.declared.Finding.{Finding}
 use Rattle.checker_dictionary.specs.Holds.{Holds}
 use Rattle.checker_extension.specs.Entering.{BetweenParagraphs, max_added}
 

@@ -5,7 +5,7 @@ ghost use Rattle.std.specs.Prelude.{◌≡◌, ◌≤◌, ◌<◌, length};
 ghost use Rattle.layout.specs.Layout.{count};
 ghost use Rattle.reader_rules.specs.Decode.{tree_of, paragraphs_from};
 ghost use Rattle.reader_rules.specs.Reading.{read_of};
-ghost use Rattle.reader_rules.specs.declared.Reading.TheVariants.{Readable};
+ghost use Rattle.reader_rules.specs.Refusals.{Readable};
 ghost use Rattle.checker_rules.specs.Areas.{CheckCall};
 ghost use Rattle.checker_rules.specs.Check.{paragraphs_of, check_work_words};
 ghost use Rattle.checker_rules.specs.Dictionary.{Dictionary, blank};
@@ -15,12 +15,11 @@ ghost use Rattle.checker.specs.Answering.{ParagraphsAsk, Answered, TreeAnswered,
 use checker_dictionary::growth::begin;
 use checker_dictionary::index;
 use checker_extension::enter;
-use checker_rules::Finding;
 use codes::{findings, limits};
 use layout::part;
 use reader::read;
 use reader_nodes::nodes::operand;
-use reader_rules::Reading;
+use reader_rules::Refusal;
 use words::{clear, word};
 
 // The m paragraphs from operand i of the Document on.
@@ -31,27 +30,19 @@ fn paragraphs_from(
     work: &mut [u32],
     i: usize,
     m: usize,
-) -> Finding
+) -> Result<(), Refusal>
     requires { ParagraphsAsk doc.now a.old dict.old work.old i m }
     ensures { (D : Dictionary) → DictionaryHeld D dict.old work.old → Answered (paragraphs_from doc.now (count doc.now) i m) D (length dict.old) dict.new result }
 {
-    if m == 0 {
-        return Finding::Accepted;
-    }
     let n = word(doc, 0);
-    let k = operand(doc, n, i);
-    let entered = enter(doc, a, dict, work, k);
-    match entered {
-        Finding::Accepted => paragraphs_from(doc, a, dict, work, i + 1, m - 1),
-        Finding::Refused { number, place } => Finding::Refused {
-            number: number,
-            place: place,
-        },
+    for j in i..i + m {
+        enter(doc, a, dict, work, operand(doc, n, j))?;
     }
+    Ok(())
 }
 
 // The paragraphs of a readable document, with areas that have room for a dictionary and for the work.
-fn check_paragraphs(doc: &[u32], dict: &mut [u32], work: &mut [u32]) -> Finding
+fn check_paragraphs(doc: &[u32], dict: &mut [u32], work: &mut [u32]) -> Result<(), Refusal>
     requires { (read_of doc.now ≡ Readable) × (check_work_words ≤ length work.old) × (0 < length dict.old) }
     ensures { Answered (paragraphs_of (tree_of doc.now)) blank (length dict.old) dict.new result }
 {
@@ -64,53 +55,41 @@ fn check_paragraphs(doc: &[u32], dict: &mut [u32], work: &mut [u32]) -> Finding
 }
 
 // A readable document: 21, then 22 at 0, then the paragraphs.
-fn check_tree(doc: &[u32], dict: &mut [u32], work: &mut [u32]) -> Finding
+fn check_tree(doc: &[u32], dict: &mut [u32], work: &mut [u32]) -> Result<(), Refusal>
     requires { read_of doc.now ≡ Readable }
     ensures { TreeAnswered (tree_of doc.now) (length dict.old) (length work.old) dict.new result }
 {
     if work.len() < limits::CHECK_WORK_WORDS {
-        return Finding::Refused {
+        return Err(Refusal {
             number: findings::WORK_AREA,
             place: 0,
-        };
+        });
     }
     if dict.len() == 0 {
-        return Finding::Refused {
+        return Err(Refusal {
             number: findings::DICTIONARY_AREA,
             place: 0,
-        };
+        });
     }
     check_paragraphs(doc, dict, work)
 }
 
 // Reading's finding where there is one. The areas are not cleared yet.
-fn check_words(doc: &[u32], dict: &mut [u32], work: &mut [u32]) -> Finding
+fn check_words(doc: &[u32], dict: &mut [u32], work: &mut [u32]) -> Result<(), Refusal>
     ensures { Answering doc.now (length dict.old) (length work.old) dict.new result }
 {
-    let reading = read(doc);
-    match reading {
-        Reading::Readable => check_tree(doc, dict, work),
-        Reading::Refused { number, place } => Finding::Refused {
-            number: number,
-            place: place,
-        },
-    }
+    read(doc)?;
+    check_tree(doc, dict, work)
 }
 
 // The check of any words, with areas of any length.
-pub fn check(doc: &[u32], dict: &mut [u32], work: &mut [u32]) -> Finding
+pub fn check(doc: &[u32], dict: &mut [u32], work: &mut [u32]) -> Result<(), Refusal>
     ensures { CheckCall doc.now (length dict.old) (length work.old) result dict.new work.new }
 {
     let found = check_words(doc, dict, work);
     clear(work);
-    match found {
-        Finding::Accepted => Finding::Accepted,
-        Finding::Refused { number, place } => {
-            clear(dict);
-            Finding::Refused {
-                number: number,
-                place: place,
-            }
-        }
+    if found.is_err() {
+        clear(dict);
     }
+    found
 }

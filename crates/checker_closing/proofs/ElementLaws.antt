@@ -1,16 +1,19 @@
 -- The type of a set's elements, from what the called functions tell.
-use mathlib.Core.Path.{◌≡◌, refl, sym, subst, ◌∙◌}
+use mathlib.Core.Path.{◌≡◌, refl, subst}
 use mathlib.Core.Bool.{Bool, true, false}
 use mathlib.Core.List.{List}
 use Prim.Native.Nat.{ℕ, ◌+◌}
 use Rattle.checker_pieces.specs.Building.{Powered}
 use Rattle.checker_pieces.specs.Closed.{Closed}
 use Rattle.checker_includes.specs.Storing.{StoreAsk}
+use Rattle.std.specs.Prelude.{Result, Ok, Err}
+use Rattle.checker_pieces.specs.Answering.{Answers}
+use Rattle.checker_closing.specs.declared.elements.Element.{Element}
 use Rattle.checker_closing.specs.Elements.{TypeKept, ClosedAsk, ClosedTold, several, one, ElementAsk, ElementTold, no_power, power}
 
 module _ {s s₁ d w : List ℕ} {n c at free : ℕ} {b : Bool} (Z : Closed s s₁ d n b) where
-  pub closed_several : b ≡ false → {number size end : ℕ} → number ≡ 34 → ClosedTold s s₁ d w w n c at free number size end
-  closed_several nay e = several e refl (subst (Closed s s₁ d n) nay Z)
+  pub closed_several : b ≡ false → {size end : ℕ} → ClosedTold s s₁ d w w n c at free 34 size end
+  closed_several nay = several refl refl (subst (Closed s s₁ d n) nay Z)
 
   pub closed_storing : b ≡ true → {end : ℕ} → ClosedAsk s d w n c at end free → StoreAsk s₁ d w n c at end free
   closed_storing y A = A.storing s₁ (subst (Closed s s₁ d n) y Z)
@@ -19,11 +22,15 @@ module _ {s s₁ d w : List ℕ} {n c at free : ℕ} {b : Bool} (Z : Closed s s�
   closed_one y K = one s₁ (subst (Closed s s₁ d n) y Z) K
 
 module _ {s s₁ d w : List ℕ} {n top c at free found : ℕ} (P : Powered s s₁ d n top c found) where
-  pub element_no_power : (found ≡ 0 → ⊥) → {number size end : ℕ} → number ≡ found → ElementTold s s₁ d w w n top c at free number size end
-  element_no_power ne e = no_power (λ z. ne (sym e ∙ z)) refl (subst (Powered s s₁ d n top c) (sym e) P)
+  pub element_no_power : (found ≡ 0 → ⊥) → {size end : ℕ} → ElementTold s s₁ d w w n top c at free found size end
+  element_no_power ne = no_power ne refl P
 
   pub element_closing : found ≡ 0 → {end : ℕ} → ElementAsk s d w n top c at end free → ClosedAsk s₁ d w (n + 2) n at end free
   element_closing y A = A.closing s₁ (subst (Powered s s₁ d n top c) y P)
 
-  pub element_power : found ≡ 0 → {s₂ w₂ : List ℕ} {number size end : ℕ} → ClosedTold s₁ s₂ d w w₂ (n + 2) n at free number size end → ElementTold s s₂ d w w₂ n top c at free number size end
-  element_power y T = power s₁ (subst (Powered s s₁ d n top c) y P) T
+-- The result of closing it.
+module _ {s s₁ d : List ℕ} {n top c found : ℕ} (P : Powered s s₁ d n top c found) (y : found ≡ 0) (w s₂ w₂ : List ℕ) (at free : ℕ) where
+  pub element_closed : (r : Result Element ℕ) → Answers Element (λ number e. ClosedTold s₁ s₂ d w w₂ (n + 2) n at free number e.size e.end) r →
+      Answers Element (λ number e. ElementTold s s₂ d w w₂ n top c at free number e.size e.end) r
+  element_closed (Ok e) h = power s₁ (subst (Powered s s₁ d n top c) y P) h
+  element_closed (Err number) h = (h.0, λ e. power s₁ (subst (Powered s s₁ d n top c) y P) (h.1 e))

@@ -6,21 +6,21 @@ use mathlib.Core.Logic.{inl, inr}
 use Prim.Native.Nat.{ℕ, ◌≤◌, ◌<◌}
 use native.Mathlib.Omega.{arith}
 use Rattle.types_rules.proofs.Terms.{bool_no}
-use Rattle.types_rules.specs.Equations.{In}
-use Rattle.types_rules.specs.Types.{Ty, Term, Each, size}
+use Rattle.std.specs.Prelude.{Result}
+use Rattle.types_rules.specs.Types.{Ty, Term, size}
 use Rattle.checker_rules.specs.Conditions.{new_names, new_name}
-use Rattle.checker_rules.specs.Dictionary.{Dictionary, blank, name_in}
+use Rattle.checker_rules.specs.Dictionary.{blank, name_in}
 use Rattle.checker_rules.specs.Items.{Items, skip, ◌⨾◌}
 use Rattle.checker_rules.specs.Signatures.{Signature}
-use Rattle.types_cells.specs.Settled.{heap, Reads}
 use Rattle.types_solver.specs.Sizes.{cap}
 use Rattle.types_solver.proofs.Marking.{cap_cases}
 use Rattle.checker_signatures.specs.Rows.{rows}
 use Rattle.checker_signatures.specs.Carried.{Carries}
 use Rattle.checker_signatures.proofs.CarryLaws.{carries_other}
 use Rattle.checker_merging.specs.Merging.{TypedAt, DeclaredTold, NewTold}
+use Rattle.checker_pieces.specs.Answering.{Answers}
 use Rattle.checker_pieces.specs.Building.{Working}
-use Rattle.checker_pieces.specs.Piece.{Steady, Walked, Settled}
+use Rattle.checker_pieces.specs.Piece.{Steady, Walked}
 use Rattle.checker_pieces.specs.Stage.{Comparing}
 use Rattle.checker_pieces.proofs.Between.{walked_skip, walked_then}
 use Rattle.checker_pieces.proofs.Stages.{cells_older, one_comparing}
@@ -36,15 +36,19 @@ comparing s d n top x y W =
     let older = cells_older s d n W.ghost (x ∷ y ∷ []) W.terms W.cells in
     one_comparing s d n x y top W.ghost W.stands (older x (inl refl)) (older y (inr (inl refl)))
 
-module _ (s s' d : List ℕ) (n top x y number n' q : ℕ) where
-  pub as_equality : q ≡ 21 → Related s s' d n top x y number n' equality_items → Related s s' d n top x y number n' (relation_items q)
-  as_equality e R = subst (λ z. Related s s' d n top x y number n' (relation_items z)) (sym e) R
+module _ (s s' d : List ℕ) (n top x y : ℕ) (r : Result ℕ ℕ) (q : ℕ) where
+  abbrev Told : (ℕ → Term → Term → Items) → Type 0
+  Told own = Answers ℕ (λ number cells. Related s s' d n top x y number cells own) r
 
-  pub as_membership : q ≡ 22 → Related s s' d n top x y number n' membership_items → Related s s' d n top x y number n' (relation_items q)
-  as_membership e R = subst (λ z. Related s s' d n top x y number n' (relation_items z)) (sym e) R
+  pub as_equality : q ≡ 21 → Answers ℕ (λ number cells. Related s s' d n top x y number cells equality_items) r → Answers ℕ (λ number cells. Related s s' d n top x y number cells (relation_items q)) r
+  as_equality e R = subst (λ z. Told (relation_items z)) (sym e) R
 
-  pub as_comparison : 21 ≤ q → q ≤ 23 → (q ≡ 21 → ⊥) → (q ≡ 22 → ⊥) → Related s s' d n top x y number n' comparison_items → Related s s' d n top x y number n' (relation_items q)
-  as_comparison l m a b R = let e : q ≡ 23 = omega (arith, l, m, a, b) in subst (λ z. Related s s' d n top x y number n' (relation_items z)) (sym e) R
+  pub as_membership : q ≡ 22 → Answers ℕ (λ number cells. Related s s' d n top x y number cells membership_items) r → Answers ℕ (λ number cells. Related s s' d n top x y number cells (relation_items q)) r
+  as_membership e R = subst (λ z. Told (relation_items z)) (sym e) R
+
+  pub as_comparison : 21 ≤ q → q ≤ 23 → (q ≡ 21 → ⊥) → (q ≡ 22 → ⊥) → Answers ℕ (λ number cells. Related s s' d n top x y number cells comparison_items) r →
+      Answers ℕ (λ number cells. Related s s' d n top x y number cells (relation_items q)) r
+  as_comparison l m a b R = let e : q ≡ 23 = omega (arith, l, m, a, b) in subst (λ z. Told (relation_items z)) (sym e) R
 
 -- 36, SECOND CASE.
 pub new_global : (g : Bool) (d w is : List ℕ) (r : Bool) → g ≡ true → NewTold d w is r → NewIfTold g d w is r

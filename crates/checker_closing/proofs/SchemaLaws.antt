@@ -16,11 +16,11 @@ module _ {d w : List ℕ} {id name e : ℕ} (F : Newest d w id e) (is : id ≡ n
   newest : Newest d w name e
   newest = subst (λ z. Newest d w z e) is F
 
-  pub schema_absent : {q : ℕ} → e ≡ 0 → SchemaLooked d w name q 31 0
+  pub schema_absent : {q at : ℕ} → e ≡ 0 → SchemaLooked d w name q 31 at
   schema_absent z = absent refl (subst (Newest d w name) z newest)
 
   module _ (some : e ≡ 0 → ⊥) {v u q : ℕ} (counts : v ≡ parameters_at d e) (asks : u ≡ q) where
-    pub schema_miscounted : (v ≡ u → ⊥) → SchemaLooked d w name q 32 0
+    pub schema_miscounted : {at : ℕ} → (v ≡ u → ⊥) → SchemaLooked d w name q 32 at
     schema_miscounted ne = miscounted refl e newest some (λ z. ne (counts ∙ z ∙ sym asks))
 
     pub schema_there : v ≡ u → {at : ℕ} → at ≡ type_at d e → at < 2 ^ 33 → SchemaLooked d w name q 0 at

@@ -20,12 +20,13 @@ fn placed(
     requires { PlacedAsk a.old d.now w.old at free k j places.old x.cell x.cells x.top x.at }
     ensures { PlacedTold a.old a.new d.now w.old w.new at free k j places.old places.new x.cell x.cells x.top result }
 {
-    let e = element_type(a, d, w, x.cells, x.top, x.cell, at, x.at, free);
-    if e.number != 0 {
-        return lined_at(e.number, k, 0, 0);
+    match element_type(a, d, w, x.cells, x.top, x.cell, at, x.at, free) {
+        Ok(e) => {
+            store(places, j, at as u32);
+            lined_at(0, k, 0, e.end)
+        }
+        Err(number) => lined_at(number, k, 0, 0),
     }
-    store(places, j, at as u32);
-    lined_at(0, k, 0, e.end)
 }
 
 // Actual number j of the Include at node k, whose visit was x.

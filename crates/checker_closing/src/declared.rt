@@ -75,12 +75,9 @@ fn typed(
     global: bool,
     e: Element,
 ) -> Lined
-    requires { TypedAsk a.old d.now w.old base m p.now at e.end k e.number }
-    ensures { TypedTold a.old a.new d.now w.old w.new base m (drop 2 p.now) at k global e.number e.size e.end result }
+    requires { TypedAsk a.old d.now w.old base m p.now at e.end k 0 }
+    ensures { TypedTold a.old a.new d.now w.old w.new base m (drop 2 p.now) at k global 0 e.size e.end result }
 {
-    if e.number != 0 {
-        return lined_at(e.number, k, 0, 0);
-    }
     let number = own_finding(a, d, w, base, m, p, at, e.size, global);
     if number != 0 {
         return lined_at(number, k, 0, 0);
@@ -105,8 +102,10 @@ fn of_set(
     requires { SetAsk a.old d.now w.old base m p.now at free k x.cell x.cells x.top x.at }
     ensures { SetTold a.old a.new d.now w.old w.new base m (drop 2 p.now) at free k global x.cell x.cells x.top result }
 {
-    let e = element_type(a, d, w, x.cells, x.top, x.cell, at, x.at, free);
-    typed(a, d, w, base, m, p, at, k, global, e)
+    match element_type(a, d, w, x.cells, x.top, x.cell, at, x.at, free) {
+        Ok(e) => typed(a, d, w, base, m, p, at, k, global, e),
+        Err(number) => lined_at(number, k, 0, 0),
+    }
 }
 
 // The Decl at node k with the part p: its set's visit was x; the signature so far is the m rows at base.

@@ -1,5 +1,6 @@
 // An Include by its schema: 31 and 32 before its actuals, 37 after them.
-ghost use Rattle.std.specs.Prelude.{◌+◌, ◌<◌, ◌^◌, get_or};
+ghost use Rattle.std.specs.Prelude.{ℕ, ◌+◌, ◌<◌, ◌^◌, get_or};
+ghost use Rattle.checker_pieces.specs.Answering.{Answers};
 ghost use Rattle.checker_closing.specs.Schemas.{SchemaLooked, RenameAsk, RowsRenamed, NamedAsk, NamedTold};
 
 use crate::results::{Lined, lined_at};
@@ -15,34 +16,18 @@ use words::word;
 // The words of an Include before its actuals.
 pub const FIRST_ACTUAL: usize = 4;
 
-// The finding of looking a schema up, 0 for none; where its type stands in the dictionary.
-#[derive(Clone, Copy)]
-pub struct Schema {
-    pub number: u32,
-    pub at: usize,
-}
-
-// The schema of the Include with the part p: its name, and the number of its parameters.
-pub fn schema_of(d: &[u32], w: &[u32], p: &[u32]) -> Schema
-    ensures { SchemaLooked d.now w.now (get_or p.now 1 0) (get_or p.now 3 0) result.number result.at }
+// The schema of the Include with the part p, by its name and the number of its parameters: where its type stands in the dictionary. Otherwise 31 or 32.
+pub fn schema_of(d: &[u32], w: &[u32], p: &[u32]) -> Result<usize, u32>
+    ensures { Answers ℕ (SchemaLooked d.now w.now (get_or p.now 1 0) (get_or p.now 3 0)) result }
 {
     let e = find_schema(d, w, word(p, 1));
     if e == 0 {
-        return Schema {
-            number: findings::UNKNOWN_NAME,
-            at: 0,
-        };
+        return Err(findings::UNKNOWN_NAME);
     }
     if parameters_of(d, e) != word(p, 3) {
-        return Schema {
-            number: findings::WRONG_COUNT,
-            at: 0,
-        };
+        return Err(findings::WRONG_COUNT);
     }
-    Schema {
-        number: 0,
-        at: type_place(d, e),
-    }
+    Ok(type_place(d, e))
 }
 
 // The m rows of a schema's components at free + HALF, with the stroke and the renames of the part p, as a table at free.
@@ -50,7 +35,7 @@ fn rename_rows(w: &mut [u32], free: usize, m: usize, k: usize, p: &[u32], end: u
     requires { (k < 2 ^ 32) × RenameAsk w.old free m p.now }
     ensures { RowsRenamed w.old w.new free m p.now k end result.number result.place result.count result.at }
 {
-    let b = bring(
+    let Some(count) = bring(
         w,
         free + HALF,
         m,
@@ -58,11 +43,10 @@ fn rename_rows(w: &mut [u32], free: usize, m: usize, k: usize, p: &[u32], end: u
         word(p, 2),
         p,
         word(p, 3) + FIRST_ACTUAL,
-    );
-    if b.wrong {
+    ) else {
         return lined_at(findings::BAD_RENAME, k, 0, 0);
-    }
-    lined_at(0, k, b.count, end)
+    };
+    lined_at(0, k, count, end)
 }
 
 // The Include at node k with the part p, whose schema's type stands at `schema` in the dictionary: x is what its actuals returned.

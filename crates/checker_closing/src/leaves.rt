@@ -1,14 +1,14 @@
 // Steps of the typing rules that visit no node.
-ghost use Rattle.std.specs.Prelude.{[], ◌∷◌, ◌+◌, ◌*◌, ◌≤◌, length, drop};
+ghost use Rattle.std.specs.Prelude.{ℕ, [], ◌∷◌, ◌+◌, ◌*◌, ◌≤◌, length, drop};
 ghost use Rattle.checker_signatures.specs.Rows.{rows, identifiers_of};
 ghost use Rattle.checker_merging.specs.Merging.{DeclaredAsk};
+ghost use Rattle.checker_pieces.specs.Answering.{Answers};
 ghost use Rattle.checker_pieces.specs.Building.{Working};
 ghost use Rattle.checker_kinds.specs.Equations.{Related};
 ghost use Rattle.checker_closing.specs.Leaves.{relation_items, FitsTold, NewIfTold};
 
 use checker_includes::storing::none_declared;
 use checker_kinds::equations::{comparison, equality, membership};
-use checker_kinds::ruling::Relation;
 use checker_merging::{declared_agree, names_new, rows_new};
 use codes::{kinds, limits};
 
@@ -21,9 +21,9 @@ pub fn related(
     q: usize,
     x: usize,
     y: usize,
-) -> Relation
+) -> Result<usize, u32>
     requires { (21 ≤ q) × (q ≤ 23) × Working a.old d.now n top 1 (x ∷ y ∷ []) }
-    ensures { Related a.old a.new d.now n top x y result.number result.cells (relation_items q) }
+    ensures { Answers ℕ (λ number cells. Related a.old a.new d.now n top x y number cells (relation_items q)) result }
 {
     if q == kinds::EQUAL {
         return equality(a, d, n, x, y);

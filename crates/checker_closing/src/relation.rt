@@ -24,11 +24,10 @@ fn ruled(a: &mut [u32], d: &[u32], at: usize, k: usize, q: usize, c: usize, y: V
     requires { RuleAsk a.old d.now k q c y.cell y.cells y.top y.at }
     ensures { RuleTold a.old a.new d.now at k q c y.cell y.cells y.top y.at result }
 {
-    let r = related(a, d, y.cells, y.top, q, c, y.cell);
-    if r.number != 0 {
-        return verdict_at(r.number, k);
+    match related(a, d, y.cells, y.top, q, c, y.cell) {
+        Ok(cells) => ended(a, d, cells, at, y.at, k),
+        Err(number) => verdict_at(number, k),
     }
-    ended(a, d, r.cells, at, y.at, k)
 }
 
 // The relation of kind q at node k. Its left side is cell c, its right side's visit was y.

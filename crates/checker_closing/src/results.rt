@@ -1,6 +1,8 @@
 // What the functions over nodes return. Number 0: no finding; otherwise it is the finding's number, at the node `place`.
 ghost use Rattle.std.specs.Prelude.{◌≡◌, ◌<◌, ◌^◌};
-ghost use Rattle.checker_closing.specs.Nodes.{VisitAt, VerdictAt, LinedAt};
+ghost use Rattle.checker_closing.specs.Nodes.{VisitAt, RuledAt, VerdictAt, LinedAt};
+
+use types_solver::entering::Grown;
 
 // An expression: the cell of its type, the number of cells, where their runs end, and from where on the pool is clean.
 #[derive(Clone, Copy)]
@@ -41,6 +43,17 @@ pub fn visit_at(number: u32, k: usize, cell: usize, cells: usize, top: usize, at
         cells: cells,
         top: top,
         at: at,
+    }
+}
+
+// The answer of the rule of node k: what it grew, or its finding.
+pub fn ruled_at(r: Result<Grown, u32>, k: usize, at: usize) -> Visit
+    requires { k < 2 ^ 32 }
+    ensures { RuledAt result r k at }
+{
+    match r {
+        Ok(g) => visit_at(0, k, g.cell, g.cells, g.top, at),
+        Err(number) => visit_at(number, k, 0, 0, 0, at),
     }
 }
 

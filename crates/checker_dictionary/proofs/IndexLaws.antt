@@ -128,15 +128,6 @@ indexed_cleared d A R n e wide = indexed_none d (A ++ (replicate n 0 ++ R)) (λ 
     ∙ get_or-append (replicate n 0) R 0 b (omega (arith, l, few, wide))
     ∙ get_or-replicate n b 0 0 (omega (arith, few, wide)))
 
-indexed_as : (d w : List ℕ) (n m : ℕ) → indexed n ≡ indexed m → IndexedTo d w n → IndexedTo d w m
-indexed_as d w n m e I = record {
-  buckets = λ b few. I.buckets b few ∙ ap (newest (in_bucket d b)) e;
-  links = λ k some most. I.links k some (omega (arith, e, most));
-}
-
-pub indexed_past : (d w : List ℕ) (k : ℕ) → index_room < k → IndexedTo d w (k - 1) → IndexedTo d w k
-indexed_past d w k past I = indexed_as d w (k - 1) k (omega (arith, past)) I
-
 few_indexed : (j k : ℕ) → k ≤ index_room → j ≤ indexed k → j ≤ k
 few_indexed j k room most = omega (arith, room, most)
 

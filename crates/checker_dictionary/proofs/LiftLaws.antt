@@ -6,15 +6,15 @@ use Rattle.words.proofs.Lists.{zeros_dropped}
 use Rattle.checker_dictionary.specs.Growth.{lifted}
 
 -- one turn, and none
-pub lifted_go : (from i : ℕ) (d : List ℕ) → from < i → lifted from (i - from) d ≡ lifted from (i - 1 - from) (set d (i + 1) (get_or d (i - 1) 0))
+pub lifted_go : (from i : ℕ) (d : List ℕ) → from < i → lifted from (i - from) d ≡ lifted from (i - 1 - from) (set d (i - 1 + 2) (get_or d (i - 1) 0))
 unfolding lifted
 lifted_go from i d h =
     let m = i - 1 - from in
     let e : i - from ≡ suc m = omega arith in
-    let to : from + m + 2 ≡ i + 1 = omega arith in
+    let to : from + m + 2 ≡ i - 1 + 2 = omega arith in
     let at : from + m ≡ i - 1 = omega arith in
     ap (λ (n : ℕ). lifted from n d) e ∙ ap (λ (j : ℕ). lifted from m (set d j (get_or d (from + m) 0))) to
-    ∙ ap (λ (j : ℕ). lifted from m (set d (i + 1) (get_or d j 0))) at
+    ∙ ap (λ (j : ℕ). lifted from m (set d (i - 1 + 2) (get_or d j 0))) at
 
 pub lifted_end : (from i : ℕ) (d : List ℕ) → i ≤ from → lifted from (i - from) d ≡ d
 unfolding lifted

@@ -1,5 +1,7 @@
 -- What the newest entry of a class with a name is in the dictionary: one law for names and schemas. And what the names of entries are.
 use Rattle.std.proofs.Common.{◌≡◌, ℕ, zero, suc, ◌+◌, ◌-◌, ◌<◌, ◌≤◌, Bool, true, false, cond, ◌&&◌, eqb, List, [], ◌∷◌, ◌++◌, length, get_or, drop, replicate, sym, refl, ap, ◌∙◌, subst, ⊎_elim, append_assoc, append-nil, eq-or-lt_of_le, arith, get_or-drop, drop-drop}
+use Rattle.std.specs.Prelude.{Option, Some, None, MatchOption}
+use Rattle.std.specs.Option.{unwrap_or}
 use Rattle.layout.specs.Layout.{count, offset_at}
 use Rattle.types_rules.specs.Types.{Ty}
 use Rattle.types_rules.specs.Words.{words}
@@ -30,6 +32,11 @@ pub newest_none : (f : ℕ → Bool) (k : ℕ) → k ≤ 0 → 0 ≡ newest f k
 unfolding newest
 newest_none f zero h = refl
 newest_none f (suc k) h = absurd (omega arith)
+
+-- the search that passes no entry
+pub newest_whole : (f : ℕ → Bool) (n : ℕ) (o : Option ℕ) → MatchOption o (newest f n ≡ newest f (n - (n - 0))) (λ k. k ≡ newest f n) → unwrap_or o 0 ≡ newest f n
+newest_whole f n None e = newest_none f (n - (n - 0)) (omega arith) ∙ sym e
+newest_whole f n (Some k) e = e
 
 -- the parts of an entry
 unfoldable class_of : Entry → ℕ

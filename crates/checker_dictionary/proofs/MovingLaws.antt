@@ -1,8 +1,8 @@
 -- One turn of moving words inside an area, up or down, and of making words zero.
-use Rattle.std.proofs.Common.{◌≡◌, ℕ, suc, ◌+◌, ◌-◌, ◌<◌, ◌≤◌, List, [], ◌∷◌, ◌++◌, length, get_or, take, drop, set, replicate, sym, refl, ap, ◌∙◌, arith, length-drop, length-take, length-take-le, get_or-drop, get_or-set_other, get_or-take, take-suc}
+use Rattle.std.proofs.Common.{◌≡◌, ℕ, suc, ◌+◌, ◌-◌, ◌<◌, ◌≤◌, List, [], ◌∷◌, ◌++◌, length, get_or, take, drop, set, replicate, sym, refl, ap, ◌∙◌, arith, length-drop, length-take-le, get_or-drop, get_or-set_other, get_or-take, take-suc}
 use lib.ListN.{length-replicate, replicate-append-replicate}
 use lib.Seq.{sets, set_comm}
-use Rattle.words.proofs.Lists.{sets_append, drop_done}
+use Rattle.words.proofs.Lists.{sets_append}
 use Rattle.words.proofs.Copying.{sets_go}
 
 -- words outside those that are written
@@ -43,15 +43,6 @@ up_step d from m to i low room most some =
     ap (λ (j : ℕ). set (sets d (to + j) (drop j ws)) (to + (i - 1)) (get_or (sets d (to + j) (drop j ws)) (from + (i - 1)) 0)) (sym e)
     ∙ up_next d from m to (i - 1) low room (omega (arith, most, some))
 
-pub up_start : (d : List ℕ) (from m to : ℕ) → d ≡ sets d (to + m) (drop m (take m (drop from d)))
-up_start d from m to = sym (ap (sets d (to + m)) (drop_done (take m (drop from d)) m (length_take_most m (drop from d))))
-  where
-    length_take_most : (n : ℕ) (l : List ℕ) → length (take n l) ≤ n
-    length_take_most n l = let e = length-take n l in omega (arith, e)
-
-pub up_end : (d : List ℕ) (ws : List ℕ) (to i : ℕ) → i ≤ 0 → sets d (to + i) (drop i ws) ≡ sets d to ws
-up_end d ws to i h = let e : i ≡ 0 = omega (arith, h) in let z : to + 0 ≡ to = omega arith in ap (λ (j : ℕ). sets d (to + j) (drop j ws)) e ∙ ap (λ (j : ℕ). sets d j ws) z
-
 -- DOWN: the first i words are moved, and word i comes next.
 pub down_next : (d : List ℕ) (from m to i : ℕ) → to ≤ from → from + m ≤ length d → i < m →
     set (sets d to (take i (drop from d))) (to + i) (get_or (sets d to (take i (drop from d))) (from + i) 0) ≡ sets d to (take (i + 1) (drop from d))
@@ -82,6 +73,3 @@ erase_step d at i low =
     let e : at + (i - at) ≡ i = omega (arith, low) in
     let f : i - at + 1 ≡ i + 1 - at = omega (arith, low) in
     ap (λ (j : ℕ). set (sets d at (replicate (i - at) 0)) j 0) (sym e) ∙ erase_next d at (i - at) ∙ ap (λ (j : ℕ). sets d at (replicate j 0)) f
-
-pub erase_start : (d : List ℕ) (at : ℕ) → d ≡ sets d at (replicate (at - at) 0)
-erase_start d at = let e : 0 ≡ at - at = omega arith in ap (λ (j : ℕ). sets d at (replicate j 0)) e

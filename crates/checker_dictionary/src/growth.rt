@@ -30,11 +30,9 @@ fn lift(d: &mut [u32], from: usize, end: usize)
     requires { end < 2 ^ 33 }
     ensures { d.new ≡ lifted from (end - from) d.old }
 {
-    let mut i = end;
-    while from < i {
-        let moved = word(d, i - 1);
-        store(d, i + 1, moved as u32);
-        i -= 1;
+    for i in (from..end).rev() {
+        let moved = word(d, i);
+        store(d, i + 2, moved as u32);
     }
 }
 
@@ -51,10 +49,8 @@ fn raise_offsets(d: &mut [u32], n: usize)
     requires { n < 2 ^ 32 }
     ensures { d.new ≡ run offset_raised 1 n d.old }
 {
-    let mut k = 1;
-    while k < n + 1 {
+    for k in 1..n + 1 {
         raise(d, 2 * k - 1, 2);
-        k += 1;
     }
 }
 

@@ -5,7 +5,7 @@ ghost use Rattle.checker_rules.specs.Dictionary.{Dictionary};
 ghost use Rattle.checker_dictionary.specs.Lookup.{is_entry, newest, NameFound, SchemaFound};
 ghost use Rattle.checker_dictionary.specs.Index.{indexed, index_end, IndexedTo, Indexed};
 
-use crate::lookup::{is_entry, name_of};
+use crate::lookup::{is_entry, name_of, newest_after};
 use codes::classes;
 use words::{clear, store, word};
 
@@ -36,6 +36,7 @@ fn linked(d: &[u32], w: &[u32], class: usize, name: usize) -> usize
     ensures { IndexedTo d.now w.now (count d.now) → result ≡ newest (is_entry d.now class name) (indexed (count d.now)) }
 {
     let mut k = word(w, HEADS + name % BUCKETS);
+    // A while: it follows links.
     while 0 < k {
         if is_entry(d, class, name, k) {
             return k;
@@ -53,14 +54,10 @@ fn linked(d: &[u32], w: &[u32], class: usize, name: usize) -> usize
 fn find(d: &[u32], w: &[u32], class: usize, name: usize) -> usize
     ensures { IndexedTo d.now w.now (count d.now) → result ≡ newest (is_entry d.now class name) (count d.now) }
 {
-    let mut k = word(d, 0);
-    while ROOM < k {
-        if is_entry(d, class, name, k) {
-            return k;
-        }
-        k -= 1;
+    match newest_after(d, class, name, ROOM) {
+        Some(k) => k,
+        None => linked(d, w, class, name),
     }
-    linked(d, w, class, name)
 }
 
 // The newest entry of a name; 0 for none.
@@ -97,9 +94,7 @@ pub fn extend(d: &[u32], w: &mut [u32], n: usize)
     ensures { n ≤ count d.now → IndexedTo d.now w.old n → IndexedTo d.now w.new (count d.now) }
 {
     let e = word(d, 0);
-    let mut k = n;
-    while k < e {
-        k += 1;
-        add(d, w, k);
+    for k in n..e {
+        add(d, w, k + 1);
     }
 }

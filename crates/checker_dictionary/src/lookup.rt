@@ -1,5 +1,5 @@
 // Entries of a dictionary by their names, the newest first. An entry is known by its number, from 1; 0 stands for none.
-ghost use Rattle.std.specs.Prelude.{◌≡◌, ◌^◌, ◌<◌};
+ghost use Rattle.std.specs.Prelude.{◌≡◌, ◌-◌, ◌^◌, ◌<◌, MatchOption};
 ghost use Rattle.layout.specs.Layout.{count, offset_at};
 ghost use Rattle.checker_rules.specs.Dictionary.{Dictionary};
 ghost use Rattle.checker_dictionary.specs.Holds.{Holds};
@@ -56,18 +56,23 @@ pub fn is_entry(d: &[u32], class: usize, name: usize, k: usize) -> bool
     name == word(d, at + 1)
 }
 
+// The newest entry of a class with a name, if one of the entries after the first `low` is one.
+pub fn newest_after(d: &[u32], class: usize, name: usize, low: usize) -> Option<usize>
+    ensures { let f = is_entry d.now class name in let n = count d.now in MatchOption result (newest f n ≡ newest f (n - (n - low))) (λ k. k ≡ newest f n) }
+{
+    for k in (low..word(d, 0)).rev() {
+        if is_entry(d, class, name, k + 1) {
+            return Some(k + 1);
+        }
+    }
+    None
+}
+
 // The newest entry of a class with a name.
 fn newest(d: &[u32], class: usize, name: usize) -> usize
     ensures { result ≡ newest (is_entry d.now class name) (count d.now) }
 {
-    let mut k = word(d, 0);
-    while 0 < k {
-        if is_entry(d, class, name, k) {
-            return k;
-        }
-        k -= 1;
-    }
-    0
+    newest_after(d, class, name, 0).unwrap_or(0)
 }
 
 // The newest entry of a name.

@@ -9,9 +9,7 @@ fn shift_up(d: &mut [u32], from: usize, m: usize, to: usize)
     requires { (from ≤ to) × (to + m ≤ length d.old) }
     ensures { d.new ≡ sets d.old to (take m (drop from d.old)) }
 {
-    let mut i = m;
-    while 0 < i {
-        i -= 1;
+    for i in (0..m).rev() {
         let moved = word(d, from + i);
         store(d, to + i, moved as u32);
     }
@@ -22,11 +20,9 @@ fn shift_down(d: &mut [u32], from: usize, m: usize, to: usize)
     requires { (to ≤ from) × (from + m ≤ length d.old) }
     ensures { d.new ≡ sets d.old to (take m (drop from d.old)) }
 {
-    let mut i = 0;
-    while i < m {
+    for i in 0..m {
         let moved = word(d, from + i);
         store(d, to + i, moved as u32);
-        i += 1;
     }
 }
 
@@ -46,9 +42,7 @@ pub fn shift(d: &mut [u32], from: usize, m: usize, to: usize)
 pub fn erase(d: &mut [u32], at: usize, end: usize)
     ensures { d.new ≡ sets d.old at (replicate (end - at) 0) }
 {
-    let mut i = at;
-    while i < end {
+    for i in at..end {
         store(d, i, 0);
-        i += 1;
     }
 }

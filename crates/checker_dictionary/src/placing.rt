@@ -35,12 +35,10 @@ fn place_pairs(d: &mut [u32], n: usize, at: u32)
     ensures { d.new ≡ placed n 1 at d.old }
 {
     let mut o = at;
-    let mut k = 1;
-    while k < n + 1 {
+    for k in 1..n + 1 {
         let len = word(d, 2 * k);
         store(d, 2 * k - 1, o);
         o = std::num::wrapping_add_u32(o, len as u32);
-        k += 1;
     }
 }
 

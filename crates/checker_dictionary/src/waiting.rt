@@ -12,12 +12,13 @@ pub fn append_all(d: &mut [u32], work: &[u32], at: usize, m: usize) -> bool
     requires { (length d.old < 2 ^ 32) × Waiting work.now at m }
     ensures { (D : Dictionary) (es : List Entry) → length es ≡ m → Holds D d.old → Waits es work.now at → AppendedAll D es d.old d.new result }
 {
-    if m == 0 {
-        return true;
+    let mut p = at;
+    for _ in 0..m {
+        let len = word(work, p);
+        if !append(d, span(work, p + 1, len)) {
+            return false;
+        }
+        p += 1 + len;
     }
-    let len = word(work, at);
-    if append(d, span(work, at + 1, len)) {
-        return append_all(d, work, at + 1 + len, m - 1);
-    }
-    false
+    true
 }

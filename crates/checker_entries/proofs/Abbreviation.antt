@@ -1,8 +1,8 @@
 -- An Abbreviation: its parameters in scope, its E as a closed piece (34), 36, 38, and one entry.
 use mathlib.Core.Path.{◌≡◌, refl, sym, ap, subst, ◌∙◌}
-use mathlib.Core.Bool.{Bool, true, false}
+use mathlib.Core.Bool.{true, false}
 use mathlib.Core.List.{List, [], ◌∷◌}
-use Prim.Native.Nat.{ℕ, suc, ◌+◌, ◌*◌, ◌-◌, ◌≤◌, ◌<◌}
+use Prim.Native.Nat.{ℕ, ◌+◌, ◌-◌, ◌≤◌, ◌<◌}
 use native.Mathlib.Omega.{arith}
 use lib.ListN.{length, replicate, length-append}
 use lib.Seq.{sets, length-sets}
@@ -17,7 +17,7 @@ use Rattle.checker_rules.specs.Entries.{extend}
 use Rattle.checker_rules.specs.Items.{Items, skip, ◌⨾◌, small, piece, Refuses, MeetsIn}
 use Rattle.checker_rules.specs.Rules.{paragraph_items, expr_items}
 use Rattle.checker_rules.specs.Scopes.{Scope, globals, with_parameters}
-use Rattle.checker_rules.specs.Unknowns.{Valuation, slot}
+use Rattle.checker_rules.specs.Unknowns.{slot}
 use Rattle.types_cells.specs.Layout.{first_run, pool_size}
 use Rattle.types_cells.specs.Settled.{lower}
 use Rattle.types_solver.specs.Sizes.{cap}

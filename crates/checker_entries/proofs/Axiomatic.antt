@@ -2,7 +2,7 @@
 use mathlib.Core.Path.{◌≡◌, refl, sym, ap, subst, ◌∙◌}
 use mathlib.Core.Bool.{true}
 use mathlib.Core.List.{List, [], ◌∷◌}
-use Prim.Native.Nat.{ℕ, ◌+◌, ◌*◌, ◌-◌, ◌≤◌, ◌<◌}
+use Prim.Native.Nat.{ℕ, ◌-◌}
 use native.Mathlib.Omega.{arith}
 use lib.ListN.{length, replicate}
 use lib.Seq.{sets, length-sets}
@@ -15,7 +15,7 @@ use Rattle.checker_rules.specs.Entries.{extend}
 use Rattle.checker_rules.specs.Items.{skip, ◌⨾◌, MeetsIn}
 use Rattle.checker_rules.specs.Rules.{paragraph_items, text_items}
 use Rattle.checker_rules.specs.Scopes.{globals, text_signature}
-use Rattle.types_cells.specs.Settled.{lower, heap, Areas}
+use Rattle.types_cells.specs.Settled.{lower, heap}
 use Rattle.types_solver.specs.Written.{Wrote}
 use Rattle.checker_signatures.specs.Rows.{rows}
 use Rattle.checker_signatures.proofs.RowLaws.{rows_length_lem}

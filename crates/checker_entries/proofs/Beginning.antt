@@ -10,12 +10,11 @@ use Rattle.checker_rules.specs.Check.{check_work_words}
 use Rattle.checker_rules.specs.Dictionary.{Dictionary}
 use Rattle.checker_rules.specs.Items.{Items, skip, Any, Passes, Refuses, MeetsIn}
 use Rattle.checker_rules.specs.Scopes.{Scope, globals}
-use Rattle.checker_rules.specs.Unknowns.{Valuation}
 use Rattle.checker_rules.proofs.ItemLaws.{passes_ext, refuses_ext}
 use Rattle.checker_signatures.specs.Rows.{stack}
 use Rattle.checker_signatures.specs.Carried.{Stacked}
 use Rattle.types_instances.specs.Clean.{Clean}
-use Rattle.checker_pieces.specs.Piece.{Steady, Walked}
+use Rattle.checker_pieces.specs.Piece.{Steady}
 use Rattle.checker_lookup.specs.Scoped.{Scoped, DictionaryHeld}
 use Rattle.checker_contracts.specs.Predicates.{Walking}
 use Rattle.checker_contracts.specs.Room.{Between, frames_at}

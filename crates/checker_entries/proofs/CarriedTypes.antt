@@ -1,14 +1,14 @@
 -- The types of a table that stands for a signature, and the entries that they make.
-use mathlib.Core.Path.{◌≡◌, refl, sym, ap, ap₂, subst, ◌∙◌}
+use mathlib.Core.Path.{◌≡◌, refl, ap, ap₂, ◌∙◌}
 use mathlib.Core.List.{List, [], ◌∷◌}
-use Prim.Native.Nat.{ℕ, suc, ◌≤◌}
+use Prim.Native.Nat.{ℕ, suc}
 use lib.ListN.{length}
 use Rattle.types_rules.specs.Former.{binding}
-use Rattle.types_rules.specs.Types.{Ty, Tys, node, tnil, tcons, Term, under, unders}
+use Rattle.types_rules.specs.Types.{Ty, Tys, node, tnil, tcons, under, unders}
 use Rattle.checker_rules.specs.Dictionary.{Dictionary, ◌▸◌, Entry, name_entry}
 use Rattle.checker_rules.specs.Entries.{add_signature}
 use Rattle.checker_rules.specs.Items.{Items, Meets}
-use Rattle.checker_rules.specs.Signatures.{Signature, no_names, naming, names_of, terms_of, binding_of}
+use Rattle.checker_rules.specs.Signatures.{Signature, no_names, naming, terms_of, binding_of}
 use Rattle.checker_rules.specs.Unknowns.{Valuation}
 use Rattle.types_cells.specs.Settled.{heap}
 use Rattle.checker_signatures.specs.Rows.{identifiers_of}

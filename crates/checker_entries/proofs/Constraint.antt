@@ -1,9 +1,9 @@
 -- A Constraint: its predicate; no entries.
 use mathlib.Core.Path.{◌≡◌, refl, sym, subst}
-use mathlib.Core.List.{List, [], ◌∷◌, ◌++◌}
-use Prim.Native.Nat.{ℕ, ◌≤◌, ◌<◌}
+use mathlib.Core.List.{List, [], ◌∷◌}
+use Prim.Native.Nat.{ℕ}
 use native.Mathlib.Omega.{arith}
-use lib.ListN.{length, drop}
+use lib.ListN.{drop}
 use Rattle.reader_rules.specs.Limited.{LimitedParagraph}
 use Rattle.reader_rules.specs.Tree.{Paragraph, constraint, Pred}
 use Rattle.reader_rules.specs.TreeNumbers.{paragraph_numbers, pred_numbers}

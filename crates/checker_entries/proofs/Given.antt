@@ -2,7 +2,7 @@
 use mathlib.Core.Path.{◌≡◌, refl, sym, ap, subst, ◌∙◌}
 use mathlib.Core.Bool.{true, false}
 use mathlib.Core.List.{List, [], ◌∷◌}
-use Prim.Native.Nat.{ℕ, suc, ◌+◌, ◌*◌, ◌≤◌, ◌<◌}
+use Prim.Native.Nat.{ℕ, suc, ◌+◌, ◌*◌, ◌≤◌}
 use native.Mathlib.Omega.{arith}
 use lib.ListN.{length}
 use lib.Seq.{length-sets}
@@ -13,7 +13,6 @@ use Rattle.checker_rules.specs.Entries.{extend, add_givens}
 use Rattle.checker_rules.specs.Items.{skip, MeetsIn}
 use Rattle.checker_rules.specs.Rules.{paragraph_items}
 use Rattle.checker_rules.specs.Unknowns.{given_set}
-use Rattle.types_cells.specs.Settled.{lower}
 use Rattle.types_solver.specs.Written.{Wrote}
 use Rattle.checker_dictionary.specs.Waiting.{with_entries, waiting}
 use Rattle.checker_dictionary.specs.Index.{index_end}

@@ -1,7 +1,7 @@
 -- One parameter more in scope.
 use mathlib.Core.Path.{◌≡◌, refl, sym, ap, subst, ◌∙◌}
 use mathlib.Core.List.{List, [], ◌∷◌}
-use Prim.Native.Nat.{ℕ, zero, suc, ◌+◌, ◌*◌, ◌-◌, ◌≤◌, ◌<◌}
+use Prim.Native.Nat.{ℕ, suc, ◌+◌, ◌*◌, ◌-◌, ◌≤◌, ◌<◌}
 use native.Mathlib.Omega.{arith}
 use lib.ListN.{length, get_or, set, take, drop}
 use lib.Seq.{sets, length-sets}
@@ -10,7 +10,6 @@ use Rattle.types_rules.specs.Formed.{WellFormed, FormedType, Arity}
 use Rattle.types_rules.specs.Former.{parameter, power, tag, identifiers}
 use Rattle.types_rules.specs.Types.{Ty, node, tnil, tcons, Each, under}
 use Rattle.types_rules.specs.Words.{words, second, part_words}
-use Rattle.types_rules.specs.Equations.{In}
 use Rattle.checker_rules.specs.Dictionary.{Dictionary}
 use Rattle.checker_rules.specs.Items.{skip}
 use Rattle.checker_rules.specs.Scopes.{Scope, local, with_parameters}

@@ -1,15 +1,14 @@
 -- Entries that were written wait, and are few words.
 use mathlib.Core.Path.{◌≡◌, refl, sym, ap, subst, ◌∙◌}
 use mathlib.Core.List.{List, [], ◌∷◌, ◌++◌, append_assoc}
-use Prim.Native.Nat.{ℕ, suc, ◌+◌, ◌*◌, ◌≤◌, ◌<◌}
+use Prim.Native.Nat.{ℕ, ◌+◌, ◌*◌, ◌≤◌}
 use native.Mathlib.Omega.{arith}
 use lib.ListN.{get_or, length, take, drop, length-append}
-use lib.Seq.{sets, sets-eq, drop-append_seam, length-take-le}
-use Rattle.types_rules.specs.Types.{Ty, Tys, tnil, tcons}
+use lib.Seq.{sets-eq, drop-append_seam, length-take-le}
+use Rattle.types_rules.specs.Types.{Tys, tnil, tcons}
 use Rattle.types_rules.specs.Former.{tag, identifiers}
 use Rattle.types_rules.specs.Words.{words, second, part_words}
-use Rattle.checker_rules.specs.Dictionary.{Entry, name_entry, entry_words}
-use Rattle.checker_rules.specs.Unknowns.{given_set}
+use Rattle.checker_rules.specs.Dictionary.{Entry, entry_words}
 use Rattle.types_solver.specs.Written.{Wrote}
 use Rattle.types_instances.proofs.Moving.{sets_before}
 use Rattle.checker_dictionary.specs.Index.{index_end}

@@ -1,24 +1,25 @@
 -- Words written one part after another, and the head of an entry before its type.
 use mathlib.Core.Path.{◌≡◌, refl, sym, ap, subst, ◌∙◌}
 use mathlib.Core.List.{List, [], ◌∷◌, ◌++◌}
-use Prim.Native.Nat.{ℕ, zero, suc, ◌+◌, ◌*◌, ◌-◌, ◌≤◌, ◌<◌, ◌^◌}
+use Prim.Native.Nat.{ℕ, suc, ◌+◌, ◌*◌, ◌-◌, ◌≤◌, ◌<◌}
 use native.Mathlib.Omega.{arith}
 use lib.ListN.{length, get_or, set, drop, length-append}
-use lib.Seq.{sets, set_comm}
+use lib.Seq.{sets}
 use Rattle.words.proofs.Lists.{drop_next, drop_done}
 use Rattle.reader_rules.specs.Decode.{pairs_from}
-use Rattle.types_rules.specs.Former.{binding, tag, identifiers}
+use Rattle.types_rules.specs.Former.{tag, identifiers}
 use Rattle.types_rules.specs.Formed.{part_count_type}
-use Rattle.types_rules.specs.Types.{Ty, Tys, node, tnil, tcons, size}
+use Rattle.types_rules.specs.Types.{Ty, Tys, tnil, tcons, size}
 use Rattle.types_rules.specs.Words.{words, second, part_words}
 use Rattle.types_rules.proofs.Words.{words_few}
-use Rattle.checker_rules.specs.Dictionary.{Entry, name_entry, schema_entry, entry_words}
+use Rattle.checker_rules.specs.Dictionary.{name_entry, entry_words}
 use Rattle.types_cells.specs.Layout.{type_words}
 use Rattle.types_cells.specs.Settled.{heap, Reads, Reading}
 use Rattle.types_solver.specs.Written.{Wrote, Copied}
 use Rattle.checker_signatures.specs.Rows.{rows, identifiers_of}
 use Rattle.checker_signatures.proofs.RowLaws.{rows_kept, get_d_below, rows_length_lem, set_sets}
 use Rattle.checker_dictionary.specs.Waiting.{waiting}
+use Rattle.checker_includes.proofs.RowSteps.{from_first, from_next}
 use Rattle.checker_entries.specs.Entries.{TypesAt, AllSmall, name_entries, given_entries, entry_waits, schema_of, TypeAsk, TableAsk}
 
 -- SETS.
@@ -229,6 +230,54 @@ parts_none H w base m at e gs T = subst (λ l. Wrote w w at at (part_words (iden
     go : (gs : Tys) → TypesAt H [] gs → Wrote w w at at (part_words (identifiers_of []) gs)
     go tnil T = wrote_none w at
     go (tcons g gs) T = absurd T
+
+-- The rows from number j on, once those before are written from `at` on, up to `end`: what is written of them ends what is written of all.
+abbrev pub Naming : List ℕ → List ℕ → List ℕ → ℕ → ℕ → ℕ → List ℕ → ℕ → ℕ → ℕ → Type 0
+Naming s d w base m at w' end base' m' =
+    TableAsk s d w' base' m' end
+    × ((w₂ : List ℕ) (e : ℕ) → ((gs : Tys) → TypesAt (heap s d) (rows w' base' m') gs → Wrote w' w₂ end e (waiting (name_entries (rows w' base' m') gs))) → (gs : Tys) →
+    TypesAt (heap s d) (rows w base m) gs → Wrote w w₂ at e (waiting (name_entries (rows w base m) gs)))
+
+abbrev pub Parting : List ℕ → List ℕ → List ℕ → ℕ → ℕ → ℕ → List ℕ → ℕ → ℕ → ℕ → Type 0
+Parting s d w base m at w' end base' m' =
+    TableAsk s d w' base' m' end
+    × ((w₂ : List ℕ) (e : ℕ) → ((gs : Tys) → TypesAt (heap s d) (rows w' base' m') gs → Wrote w' w₂ end e (part_words (identifiers_of (rows w' base' m')) gs)) → (gs : Tys) →
+    TypesAt (heap s d) (rows w base m) gs → Wrote w w₂ at e (part_words (identifiers_of (rows w base m)) gs))
+
+pub row_asked : (s d w : List ℕ) (base m at j : ℕ) → j < m → TableAsk s d w (base + 2 * j) (m - j) at → (p : ℕ) → p ≡ get_or w (base + 2 * j + 1) 0 → TypeAsk s d p
+row_asked s d w base m at j l A = first_asked s d w (base + 2 * j) (m - j) at (λ e. omega arith) A
+
+module _ (s d w : List ℕ) (base m at : ℕ) where
+  pub naming_start : TableAsk s d w base m at → Naming s d w base m at w at (base + 2 * 0) (m - 0)
+  naming_start A = from_first (Naming s d w base m at w at) base m (A, λ w₂ e N. N)
+
+  pub parting_start : TableAsk s d w base m at → Parting s d w base m at w at (base + 2 * 0) (m - 0)
+  parting_start A = from_first (Parting s d w base m at w at) base m (A, λ w₂ e N. N)
+
+  module _ (w' : List ℕ) (end j : ℕ) where
+    pub naming_end : m ≤ j → Naming s d w base m at w' end (base + 2 * j) (m - j) → (gs : Tys) → TypesAt (heap s d) (rows w base m) gs → Wrote w w' at end (waiting (name_entries (rows w base m) gs))
+    naming_end l I = I.1 w' end (names_none (heap s d) w' (base + 2 * j) (m - j) end (omega arith))
+
+    pub parting_end : m ≤ j → Parting s d w base m at w' end (base + 2 * j) (m - j) → (gs : Tys) → TypesAt (heap s d) (rows w base m) gs →
+        Wrote w w' at end (part_words (identifiers_of (rows w base m)) gs)
+    parting_end l I = I.1 w' end (parts_none (heap s d) w' (base + 2 * j) (m - j) end (omega arith))
+
+    module _ (l : j < m) where
+      some : m - j ≡ 0 → ⊥
+      some e = omega arith
+
+      module _ (id p : ℕ) (ei : id ≡ get_or w' (base + 2 * j) 0) (ep : p ≡ get_or w' (base + 2 * j + 1) 0) (w₁ : List ℕ) (e₁ : ℕ) where
+        pub naming_next : Naming s d w base m at w' end (base + 2 * j) (m - j) → ((g : Ty) → Reads (heap s d) p g → Wrote w' w₁ end e₁ (entry_waits (name_entry id 0 g))) →
+            Naming s d w base m at w₁ e₁ (base + 2 * (j + 1)) (m - (j + 1))
+        naming_next I F =
+            from_next (Naming s d w base m at w₁ e₁) base m j
+            (names_asked s d w' w₁ (base + 2 * j) (m - j) end id p e₁ some I.0 ei ep F, λ w₂ e N. I.1 w₂ e (names_next s d w' w₁ (base + 2 * j) (m - j) end id p e₁ some I.0 ei ep F w₂ e N))
+
+        pub parting_next : Parting s d w base m at w' end (base + 2 * j) (m - j) → (w₀ : List ℕ) → w₀ ≡ set w' end id → Copied s d w₀ w₁ (end + 1) p e₁ →
+            Parting s d w base m at w₁ e₁ (base + 2 * (j + 1)) (m - (j + 1))
+        parting_next I w₀ h C =
+            from_next (Parting s d w base m at w₁ e₁) base m j
+            (parts_asked s d w' w₁ (base + 2 * j) (m - j) end id p e₁ some I.0 ei ep w₀ h C, λ w₂ e N. I.1 w₂ e (parts_next s d w' w₁ (base + 2 * j) (m - j) end id p e₁ some I.0 ei ep w₀ h C w₂ e N))
 
 -- A SCHEMA: tag and number of parts, the parts, and the head.
 pub types_count : (H : List ℕ) (rs : List (ℕ × ℕ)) (gs : Tys) → TypesAt H rs gs → part_count_type gs ≡ length rs

@@ -54,15 +54,16 @@ pub fn given_entries(w: &mut [u32], p: &[u32], j: usize, at: usize) -> usize
     requires { at + 7 * (length p.now - j) < 2 ^ 40 }
     ensures { Wrote w.old w.new at result (waiting (given_entries (drop j p.now))) }
 {
-    if p.len() <= j {
-        return at;
+    let mut end = at;
+    for i in j..p.len() {
+        let id = word(p, i);
+        put_head(w, end, GIVEN_WORDS, classes::NAME, id, 0);
+        store(w, end + HEAD, POWER);
+        store(w, end + SECOND, GIVEN);
+        store(w, end + THIRD, id as u32);
+        end += GIVEN_WAITS;
     }
-    let id = word(p, j);
-    put_head(w, at, GIVEN_WORDS, classes::NAME, id, 0);
-    store(w, at + HEAD, POWER);
-    store(w, at + SECOND, GIVEN);
-    store(w, at + THIRD, id as u32);
-    given_entries(w, p, j + 1, at + GIVEN_WAITS)
+    end
 }
 
 // The entry of the identifier id, which has the type at p: where it ends.
@@ -80,11 +81,12 @@ pub fn name_entries(a: &[u32], d: &[u32], w: &mut [u32], base: usize, m: usize, 
     requires { TableAsk a.now d.now w.old base m at }
     ensures { (gs : Tys) → TypesAt (heap a.now d.now) (rows w.old base m) gs → Wrote w.old w.new at result (waiting (name_entries (rows w.old base m) gs)) }
 {
-    if m == 0 {
-        return at;
+    let mut end = at;
+    for j in 0..m {
+        let r = base + 2 * j;
+        end = name_entry(a, d, w, word(w, r), word(w, r + 1), end);
     }
-    let e = name_entry(a, d, w, word(w, base), word(w, base + 1), at);
-    name_entries(a, d, w, base + 2, m - 1, e)
+    end
 }
 
 // The identifiers and types of the m rows at base, the parts of a binding: where they end.
@@ -92,14 +94,15 @@ fn put_parts(a: &[u32], d: &[u32], w: &mut [u32], base: usize, m: usize, at: usi
     requires { TableAsk a.now d.now w.old base m at }
     ensures { (gs : Tys) → TypesAt (heap a.now d.now) (rows w.old base m) gs → Wrote w.old w.new at result (part_words (identifiers_of (rows w.old base m)) gs) }
 {
-    if m == 0 {
-        return at;
+    let mut end = at;
+    for j in 0..m {
+        let r = base + 2 * j;
+        let id = word(w, r);
+        let p = word(w, r + 1);
+        store(w, end, id as u32);
+        end = put_type(a, d, w, end + 1, p);
     }
-    let id = word(w, base);
-    let p = word(w, base + 1);
-    store(w, at, id as u32);
-    let e = put_type(a, d, w, at + 1, p);
-    put_parts(a, d, w, base + 2, m - 1, e)
+    end
 }
 
 // The entry of a schema with this name and parameter count, whose binding has the m rows at base: where it ends.

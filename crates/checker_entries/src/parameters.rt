@@ -25,13 +25,12 @@ pub fn push_parameters(a: &mut [u32], w: &mut [u32], p: &[u32], j: usize, n: usi
     requires { ParametersAsk a.old w.old p.now j n }
     ensures { ParametersPushed a.old a.new w.old w.new (take (n - j) (drop (j + 3) p.now)) j n result }
 {
-    let at = PLACE * j + POOL_START;
-    if n <= j {
-        return at;
+    for i in j..n {
+        let at = PLACE * i + POOL_START;
+        store(a, at, POWER);
+        store(a, at + 1, PARAMETER);
+        store(a, at + 2, (i + 1) as u32);
+        push_row(w, 0, i, word(p, i + FIRST_PARAMETER), at);
     }
-    store(a, at, POWER);
-    store(a, at + 1, PARAMETER);
-    store(a, at + 2, (j + 1) as u32);
-    push_row(w, 0, j, word(p, j + FIRST_PARAMETER), at);
-    push_parameters(a, w, p, j + 1, n)
+    PLACE * n + POOL_START
 }

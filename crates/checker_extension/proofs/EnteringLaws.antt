@@ -8,6 +8,7 @@ use native.Mathlib.Omega.{arith}
 use native.Mathlib.Nat.{le_trans}
 use lib.ListN.{length, take, drop}
 use lib.Seq.{length-take-le}
+use Rattle.reader_rules.proofs.Scan.{same_refusal}
 use Rattle.reader_rules.specs.Kinds.{paragraphs}
 use Rattle.reader_rules.specs.Promise.{At}
 use Rattle.reader_rules.specs.Decode.{paragraph_at}
@@ -15,7 +16,7 @@ use Rattle.reader_rules.specs.Tree.{Paragraph}
 use Rattle.reader_rules.proofs.OnceBelow.{once_at}
 use Rattle.checker_rules.specs.Dictionary.{Entry, Dictionary, dictionary_length}
 use Rattle.checker_rules.specs.Verdicts.{RefusesAt}
-use Rattle.checker_rules.specs.declared.Finding.TheVariants.{Accepted, Refused}
+use Rattle.reader_rules.specs.Refusals.{Accepted, Refused}
 use Rattle.checker_dictionary.specs.Growth.{size_at}
 use Rattle.checker_dictionary.specs.Holds.{Holds}
 use Rattle.layout.specs.Layout.{count}
@@ -90,7 +91,7 @@ module _ (doc : List ℕ) (k : ℕ) (L : IsParagraph doc k) (s s' d w w' : List 
   entered_refused ne = record {
     low = λ q. let z : ◌≡◌ {A = ℕ} 0 1 = cc in absurd (omega arith);
     goes = λ q. let z : ◌≡◌ {A = ℕ} 0 1 = cc in absurd (omega arith);
-    stops = λ g j q D S ps. let a : f ≡ g = cc in let b : m ≡ j = cc in rw (← a, ← b) (inl (X.stops ne D S));
+    stops = λ g j q D S ps. let a = same_refusal f m g j q in rw (← a.0, ← a.1) (inl (X.stops ne D S));
   }
 
   module _ (z : f ≡ 0) where
@@ -142,8 +143,7 @@ module _ (doc : List ℕ) (k : ℕ) (L : IsParagraph doc k) (s s' d w w' : List 
         goes = λ q. let y : ◌≡◌ {A = ℕ} 0 1 = cc in absurd (omega arith);
         stops = λ g j q D S ps.
             let E = X.goes z D S in
-            let a : 22 ≡ g = cc in
-            let b : k ≡ j = cc in
+            let a = same_refusal 22 k g j q in
             let l = subst (λ (G : Dictionary). length d < dictionary_length G) (sym E.extends) ((appended D S E).full t) in
-            inr (E.passes, (E.table, (tt, E.meets), inl (l, sym a, sym b ∙ sym (node_is doc k (listed_at doc k L)))));
+            inr (E.passes, (E.table, (tt, E.meets), inl (l, sym a.0, sym a.1 ∙ sym (node_is doc k (listed_at doc k L)))));
       }

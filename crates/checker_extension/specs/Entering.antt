@@ -4,7 +4,7 @@ use Rattle.layout.specs.Layout.{count, part}
 use Rattle.reader_rules.specs.Nodes.{operand_at}
 use Rattle.reader_rules.specs.Reading.{read_of}
 use Rattle.reader_rules.specs.Tree.{Paragraph}
-use Rattle.reader_rules.specs.declared.Reading.TheVariants.{Readable}
+use Rattle.reader_rules.specs.Refusals.{Finding, Readable, Accepted, Refused}
 use Rattle.checker_rules.specs.Check.{check_work_words}
 use Rattle.checker_rules.specs.Dictionary.{Dictionary, dictionary_length}
 use Rattle.checker_rules.specs.Entries.{extend}
@@ -12,8 +12,6 @@ use Rattle.checker_rules.specs.Items.{Meets, Any, Passes}
 use Rattle.checker_rules.specs.Rules.{paragraph_items}
 use Rattle.checker_rules.specs.Unknowns.{Valuation}
 use Rattle.checker_rules.specs.Verdicts.{RefusesAt}
-use Rattle.checker_rules.specs.declared.Finding.{Finding}
-use Rattle.checker_rules.specs.declared.Finding.TheVariants.{Accepted, Refused}
 use Rattle.types_cells.specs.Layout.{area_size}
 use Rattle.types_cells.specs.Settled.{lower}
 use Rattle.types_instances.specs.Clean.{Clean}

@@ -14,8 +14,8 @@ use checker_dictionary::growth::size;
 use checker_dictionary::index;
 use checker_dictionary::waiting::append_all;
 use checker_paragraphs::paragraphs::paragraph;
-use checker_rules::Finding;
 use codes::findings;
+use reader_rules::Refusal;
 use words::{span, word};
 
 // The words of an area that a dictionary may use: offsets and lengths are 32 bits.
@@ -42,26 +42,32 @@ fn append(dict: &mut [u32], work: &[u32], at: usize, m: usize) -> bool
 }
 
 // The paragraph at node k: its finding, then 22; Accepted where the dictionary and its index have its entries.
-pub fn enter(doc: &[u32], a: &mut [u32], dict: &mut [u32], work: &mut [u32], k: usize) -> Finding
+pub fn enter(
+    doc: &[u32],
+    a: &mut [u32],
+    dict: &mut [u32],
+    work: &mut [u32],
+    k: usize,
+) -> Result<(), Refusal>
     requires { IsParagraph doc.now k × BetweenParagraphs a.old dict.old work.old }
     ensures { Entered a.old a.new dict.old dict.new work.old work.new (paragraph_at doc.now k) result }
 {
     let n = word(dict, 0);
     let p = visit(doc, a, dict, work, k);
     if p.number != 0 {
-        return Finding::Refused {
+        return Err(Refusal {
             number: p.number,
             place: p.place,
-        };
+        });
     }
     let at = p.at;
     let m = p.count;
     if append(dict, work, at, m) {
         index::extend(dict, work, n);
-        return Finding::Accepted;
+        return Ok(());
     }
-    Finding::Refused {
+    Err(Refusal {
         number: findings::DICTIONARY_AREA,
         place: k as u32,
-    }
+    })
 }

@@ -27,6 +27,7 @@ use Rattle.checker_includes.specs.Components.{Placed, ActualTypes}
 use Rattle.checker_includes.specs.Filling.{Comparing, SameFilled, RowsAsk, AgreeAsk, OneAsk, OneTold, AgreeTold}
 use Rattle.checker_includes.proofs.StandLaws.{stands_back, fill_alike}
 use Rattle.checker_includes.proofs.LaterLaws.{actuals_later, placed_later}
+use Rattle.checker_includes.proofs.RowSteps.{from_first, from_next}
 
 abbrev pub None : ℕ → Type 0
 None x = ⊥
@@ -173,3 +174,27 @@ module _ (s d w : List ℕ) (base m : ℕ) (places : List ℕ) where
     pub agree_go : c ≡ true → (b : Bool) → AgreeTold s d w base m (source + 2) (k - 1) places b → AgreeTold s d w base m source k places b
     agree_go q b N = agree_next source k (k - 1) less (subst (OneTold s d w base m _ _ places) q told) b
         (subst (λ z. AgreeTold s d w base m z (k - 1) places b) (let z : source + 2 ≡ suc (suc source) = omega arith in z) N)
+
+-- The rows before agree: what is told of the k' rows at source' is told of the k at source.
+abbrev pub Agreeing : List ℕ → List ℕ → List ℕ → ℕ → ℕ → List ℕ → ℕ → ℕ → ℕ → ℕ → Type 0
+Agreeing s d w base m places source k source' k' = AgreeAsk s d w base m source' k' places × ((b : Bool) → AgreeTold s d w base m source' k' places b → AgreeTold s d w base m source k places b)
+
+module _ (s d w : List ℕ) (base m : ℕ) (places : List ℕ) (source k : ℕ) where
+  pub agreeing_start : AgreeAsk s d w base m source k places → Agreeing s d w base m places source k (source + 2 * 0) (k - 0)
+  agreeing_start A = from_first (Agreeing s d w base m places source k) source k (A, λ b N. N)
+
+  module _ (j : ℕ) (l : j < k) (I : Agreeing s d w base m places source k (source + 2 * j) (k - j)) (i p : ℕ) (ei : i ≡ get_or w (source + 2 * j) 0) (ep : p ≡ get_or w (source + 2 * j + 1) 0) (c : Bool)
+      (O : OneTold s d w base m p i places c) where
+    some : k - j ≡ 0 → ⊥
+    some e = omega arith
+
+    pub agreeing_stop : c ≡ false → AgreeTold s d w base m source k places false
+    agreeing_stop q = I.1 false (agree_stop s d w base m places (source + 2 * j) (k - j) some i p ei ep c O q)
+
+    pub agreeing_next : c ≡ true → Agreeing s d w base m places source k (source + 2 * (j + 1)) (k - (j + 1))
+    agreeing_next q =
+        from_next (Agreeing s d w base m places source k) source k j
+        (agree_fewer s d w base m places (source + 2 * j) (k - j) some I.0, λ b N. I.1 b (agree_go s d w base m places (source + 2 * j) (k - j) some i p ei ep c O q b N))
+
+  pub agreeing_end : (j : ℕ) → k ≤ j → Agreeing s d w base m places source k (source + 2 * j) (k - j) → AgreeTold s d w base m source k places true
+  agreeing_end j l I = I.1 true (agree_none s d w base m places (source + 2 * j) (k - j) (omega arith))

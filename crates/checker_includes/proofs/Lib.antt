@@ -1,6 +1,7 @@
 pub mod SameLaws
 pub mod StandLaws
 pub mod LaterLaws
+pub mod RowSteps
 pub mod AgreeLaws
 pub mod SmallLaws
 pub mod FillsLaws

@@ -27,7 +27,8 @@ use Rattle.checker_includes.specs.Components.{ActualTypes}
 use Rattle.checker_includes.specs.Filling.{RowsAsk, SmallTold}
 use Rattle.checker_includes.proofs.StandLaws.{fill_alike, over_alike}
 use Rattle.checker_includes.proofs.LaterLaws.{actuals_later}
-use Rattle.checker_includes.proofs.AgreeLaws.{None, component_settled, first_readable}
+use Rattle.checker_includes.proofs.RowSteps.{from_first, from_next}
+use Rattle.checker_includes.proofs.AgreeLaws.{None, component_settled, first_readable, rows_fewer}
 
 size_over : (g : Ty) (v : ℕ) → v ≡ cap (size g) → 32 < v → 32 < size g
 size_over g v e l = cap_cases (size g) _ (λ m q. omega arith) (λ m q. omega arith)
@@ -114,3 +115,30 @@ module _ (s d w : List ℕ) (places : List ℕ) where
 
     pub small_go : v ≤ 32 → (b : Bool) → SmallTold s d w (source + 2) (k - 1) places b → SmallTold s d w source k places b
     small_go l b N = small_next source k (k - 1) less v size_at_lem l b (subst (λ z. SmallTold s d w z (k - 1) places b) (let z : source + 2 ≡ suc (suc source) = omega arith in z) N)
+
+-- The rows before are small: what is told of the k' rows at source' is told of the k at source.
+abbrev pub AllSoFar : List ℕ → List ℕ → List ℕ → List ℕ → ℕ → ℕ → ℕ → ℕ → Type 0
+AllSoFar s d w places source k source' k' = RowsAsk s d w source' k' places × ((b : Bool) → SmallTold s d w source' k' places b → SmallTold s d w source k places b)
+
+module _ (s d w places : List ℕ) (source k : ℕ) where
+  pub so_far_start : RowsAsk s d w source k places → AllSoFar s d w places source k (source + 2 * 0) (k - 0)
+  so_far_start A = from_first (AllSoFar s d w places source k) source k (A, λ b N. N)
+
+  module _ (j : ℕ) (l : j < k) (I : AllSoFar s d w places source k (source + 2 * j) (k - j)) (p : ℕ) (ep : p ≡ get_or w (source + 2 * j + 1) 0) where
+    some : k - j ≡ 0 → ⊥
+    some e = omega arith
+
+    pub so_far_asked : Filling s d p places
+    so_far_asked = filling_of s d w places (source + 2 * j) (k - j) some I.0 p ep
+
+    module _ (v : ℕ) (F : FilledSize s d p places v) where
+      pub so_far_stop : 32 < v → SmallTold s d w source k places false
+      so_far_stop q = I.1 false (small_stop s d w places (source + 2 * j) (k - j) some p ep v F q)
+
+      pub so_far_next : v ≤ 32 → AllSoFar s d w places source k (source + 2 * (j + 1)) (k - (j + 1))
+      so_far_next q =
+          from_next (AllSoFar s d w places source k) source k j
+          (rows_fewer s d w (source + 2 * j) (k - j) places some I.0, λ b N. I.1 b (small_go s d w places (source + 2 * j) (k - j) some p ep v F q b N))
+
+  pub so_far_end : (j : ℕ) → k ≤ j → AllSoFar s d w places source k (source + 2 * j) (k - j) → SmallTold s d w source k places true
+  so_far_end j l I = I.1 true (small_none s d w places (source + 2 * j) (k - j) (omega arith))

@@ -16,12 +16,10 @@ fn same_words(a: &[u32], d: &[u32], p: usize, q: usize, k: usize) -> bool
     requires { (length a.now ≡ area_size) × (p + k < 2 ^ 40) × (q + k < 2 ^ 40) }
     ensures { Tells result ((i : ℕ) → i < k → get_or (heap a.now d.now) (p + i) 0 ≡ get_or (heap a.now d.now) (q + i) 0) }
 {
-    let mut j = 0;
-    while j < k {
+    for j in 0..k {
         if type_word(a, d, p + j) != type_word(a, d, q + j) {
             return false;
         }
-        j += 1;
     }
     true
 }
@@ -55,8 +53,7 @@ pub fn same_filled(a: &[u32], d: &[u32], p: usize, row: &[u32], q: usize) -> boo
     let n = parts_of(a, d, t, p);
     let mut at = p + k;
     let mut to = q + k;
-    let mut j = 0;
-    while j < n {
+    for j in 0..n {
         if !same_words(a, d, at, to, w) {
             return false;
         }
@@ -67,7 +64,6 @@ pub fn same_filled(a: &[u32], d: &[u32], p: usize, row: &[u32], q: usize) -> boo
         }
         at = skip(a, d, x);
         to = skip(a, d, y);
-        j += 1;
     }
     true
 }
@@ -107,13 +103,13 @@ pub fn rows_agree(
     requires { AgreeAsk a.now d.now w.now base m source k row.now }
     ensures { AgreeTold a.now d.now w.now base m source k row.now result }
 {
-    if k == 0 {
-        return true;
+    for j in 0..k {
+        let r = source + 2 * j;
+        if !agrees(a, d, w, base, m, word(w, r), word(w, r + 1), row) {
+            return false;
+        }
     }
-    if agrees(a, d, w, base, m, word(w, source), word(w, source + 1), row) {
-        return rows_agree(a, d, w, base, m, source + 2, k - 1, row);
-    }
-    false
+    true
 }
 
 // The types of the k rows at source, with the actuals for their parameters, are of size 32 at most.
@@ -121,11 +117,10 @@ pub fn rows_small(a: &[u32], d: &[u32], w: &[u32], source: usize, k: usize, row:
     requires { RowsAsk a.now d.now w.now source k row.now }
     ensures { SmallTold a.now d.now w.now source k row.now result }
 {
-    if k == 0 {
-        return true;
+    for j in 0..k {
+        if limits::SIZE < filled_size(a, d, word(w, source + 2 * j + 1), row).size {
+            return false;
+        }
     }
-    if limits::SIZE < filled_size(a, d, word(w, source + 1), row).size {
-        return false;
-    }
-    rows_small(a, d, w, source + 2, k - 1, row)
+    true
 }

@@ -26,10 +26,8 @@ fn put_large(a: &mut [u32], at: usize)
     requires { at < 2 ^ 32 }
     ensures { a.new ≡ sets a.old at (types.words large) }
 {
-    let mut j = 0;
-    while j < LARGE_POWERS {
+    for j in 0..LARGE_POWERS {
         store(a, at + j, POWER);
-        j += 1;
     }
     store(a, at + LARGE_POWERS, INTEGERS);
 }
@@ -83,13 +81,12 @@ pub fn none_declared(w: &[u32], base: usize, m: usize, part: &[u32], j: usize) -
     requires { base + 2 * m ≤ length w.now }
     ensures { (s d : List ℕ) → OverlapTold s d w.now base m (drop j part.now) result }
 {
-    if part.len() <= j {
-        return true;
+    for i in j..part.len() {
+        if find(w, base, m, word(part, i)) < m {
+            return false;
+        }
     }
-    if find(w, base, m, word(part, j)) < m {
-        return false;
-    }
-    none_declared(w, base, m, part, j + 1)
+    true
 }
 
 // The row at r gets the place of the table's row with its identifier; or its type, with the actuals of `row` for the parameters, is written from e on, and
@@ -137,10 +134,8 @@ fn keep_all(
     ensures { AllKept a.now d.now w.old w.new base m source k row.now at free result }
 {
     let mut e = free;
-    let mut j = 0;
-    while j < k {
+    for j in 0..k {
         e = keep_row(a, d, w, base, m, source + 2 * j, row, at + (e - free), e);
-        j += 1;
     }
     e
 }

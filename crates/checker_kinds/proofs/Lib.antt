@@ -8,3 +8,4 @@ pub mod FormerLaws
 pub mod PowerRule
 pub mod SetRule
 pub mod ProductRule
+pub mod Answering

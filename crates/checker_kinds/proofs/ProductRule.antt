@@ -36,7 +36,7 @@ pub none_filled : (w : List ℕ) (f : ℕ) → take 0 w ≡ up_from f 0
 unfolding up_from
 none_filled w f = refl
 
-pub fill_length : (w : List ℕ) (j v : ℕ) → length (set w j v) ≡ length w
+fill_length : (w : List ℕ) (j v : ℕ) → length (set w j v) ≡ length w
 fill_length w j v = simp length-set (omega arith)
 
 pub fill_step : (w : List ℕ) (f j : ℕ) → take j w ≡ up_from f j → j < length w → take (j + 1) (set w j (f + j)) ≡ up_from f (j + 1)

@@ -1,20 +1,20 @@
 // Rules whose types are built of their operands' types. The store has n cells, whose runs end at `top`.
 
 ghost use Rattle.std.specs.Prelude.{List, [], ◌∷◌, ◌≡◌, ℕ, ◌+◌, ◌≤◌, ◌<◌, ◌^◌, length, take};
+ghost use Rattle.checker_pieces.specs.Answering.{Rules};
 ghost use Rattle.checker_pieces.specs.Building.{Building, Working};
 ghost use Rattle.checker_kinds.specs.Formers.{up_from, Operating, DerivedList, Derived, number_items, integers_items, tuple_items, product_items, set_items, comprehension_items, power_rule_items};
 
-use crate::ruling::Ruling;
 use codes::limits;
+use types_solver::entering::Grown;
 
 // Number: ℤ.
-pub fn number_rule(a: &mut [u32], n: usize, top: usize) -> Ruling
+pub fn number_rule(a: &mut [u32], n: usize, top: usize) -> Grown
     requires { Building a.old n top 1 [] }
-    ensures { (d : List ℕ) → DerivedList a.old a.new d n top [] result.number result.cell result.cells result.top 1 number_items }
+    ensures { (d : List ℕ) → DerivedList a.old a.new d n top [] 0 result.cell result.cells result.top 1 number_items }
 {
     checker_pieces::formers::integer(a, n);
-    Ruling {
-        number: 0,
+    Grown {
         cell: n,
         cells: n + 1,
         top: top,
@@ -22,14 +22,13 @@ pub fn number_rule(a: &mut [u32], n: usize, top: usize) -> Ruling
 }
 
 // The set ℤ: a power of ℤ.
-pub fn integers_rule(a: &mut [u32], n: usize, top: usize) -> Ruling
+pub fn integers_rule(a: &mut [u32], n: usize, top: usize) -> Grown
     requires { Building a.old n top 2 [] }
-    ensures { (d : List ℕ) → DerivedList a.old a.new d n top [] result.number result.cell result.cells result.top 2 integers_items }
+    ensures { (d : List ℕ) → DerivedList a.old a.new d n top [] 0 result.cell result.cells result.top 2 integers_items }
 {
     checker_pieces::formers::integer(a, n);
     checker_pieces::formers::power(a, n + 1, top, n);
-    Ruling {
-        number: 0,
+    Grown {
         cell: n + 1,
         cells: n + 2,
         top: top + 1,
@@ -37,13 +36,12 @@ pub fn integers_rule(a: &mut [u32], n: usize, top: usize) -> Ruling
 }
 
 // Tuple: the product of the cells in the first m words of `parts`.
-pub fn tuple_rule(a: &mut [u32], n: usize, top: usize, parts: &[u32], m: usize) -> Ruling
+pub fn tuple_rule(a: &mut [u32], n: usize, top: usize, parts: &[u32], m: usize) -> Grown
     requires { (m ≤ 6) × (m ≤ length parts.now) × Building a.old n top 4 (take m parts.now) }
-    ensures { (d : List ℕ) → DerivedList a.old a.new d n top (take m parts.now) result.number result.cell result.cells result.top 4 tuple_items }
+    ensures { (d : List ℕ) → DerivedList a.old a.new d n top (take m parts.now) 0 result.cell result.cells result.top 4 tuple_items }
 {
     checker_pieces::formers::product(a, n, top, parts, m);
-    Ruling {
-        number: 0,
+    Grown {
         cell: n,
         cells: n + 1,
         top: top + m,
@@ -51,13 +49,12 @@ pub fn tuple_rule(a: &mut [u32], n: usize, top: usize, parts: &[u32], m: usize) 
 }
 
 // Comprehension: the power of its body's type, that of cell c.
-pub fn comprehension_rule(a: &mut [u32], n: usize, top: usize, c: usize) -> Ruling
+pub fn comprehension_rule(a: &mut [u32], n: usize, top: usize, c: usize) -> Grown
     requires { Building a.old n top 1 (c ∷ []) }
-    ensures { (d : List ℕ) → Derived a.old a.new d n top c result.number result.cell result.cells result.top 1 comprehension_items }
+    ensures { (d : List ℕ) → Derived a.old a.new d n top c 0 result.cell result.cells result.top 1 comprehension_items }
 {
     checker_pieces::formers::power(a, n, top, c);
-    Ruling {
-        number: 0,
+    Grown {
         cell: n,
         cells: n + 1,
         top: top + 1,
@@ -65,51 +62,46 @@ pub fn comprehension_rule(a: &mut [u32], n: usize, top: usize, c: usize) -> Ruli
 }
 
 // Power: the operand's type is a power, and the power of that the type.
-pub fn power_rule(a: &mut [u32], d: &[u32], n: usize, top: usize, c: usize) -> Ruling
+pub fn power_rule(a: &mut [u32], d: &[u32], n: usize, top: usize, c: usize) -> Result<Grown, u32>
     requires { Working a.old d.now n top 4 (c ∷ []) }
-    ensures { Derived a.old a.new d.now n top c result.number result.cell result.cells result.top 4 power_rule_items }
+    ensures { Rules n (λ number g. Derived a.old a.new d.now n top c number g.cell g.cells g.top 4 power_rule_items) result }
 {
     let number = checker_pieces::powers::is_power(a, d, n, top, c);
-    if number == 0 {
-        checker_pieces::formers::power(a, n + 2, top + 1, n);
-        checker_pieces::formers::power(a, n + 3, top + 2, n + 2);
-        return Ruling {
-            number: 0,
-            cell: n + 3,
-            cells: n + 4,
-            top: top + 3,
-        };
+    if number != 0 {
+        return Err(number);
     }
-    Ruling {
-        number: number,
-        cell: c,
-        cells: n,
-        top: top,
-    }
+    checker_pieces::formers::power(a, n + 2, top + 1, n);
+    checker_pieces::formers::power(a, n + 3, top + 2, n + 2);
+    Ok(Grown {
+        cell: n + 3,
+        cells: n + 4,
+        top: top + 3,
+    })
 }
 
 // Set: its members, the cells in the first m words of `parts`, have one type, and the power of that is the type.
-pub fn set_rule(a: &mut [u32], d: &[u32], n: usize, top: usize, parts: &[u32], m: usize) -> Ruling
+pub fn set_rule(
+    a: &mut [u32],
+    d: &[u32],
+    n: usize,
+    top: usize,
+    parts: &[u32],
+    m: usize,
+) -> Result<Grown, u32>
     requires { (m ≤ length parts.now) × Operating a.old d.now n top 2 (take m parts.now) }
-    ensures { DerivedList a.old a.new d.now n top (take m parts.now) result.number result.cell result.cells result.top 2 set_items }
+    ensures { Rules n (λ number g. DerivedList a.old a.new d.now n top (take m parts.now) number g.cell g.cells g.top 2 set_items) result }
 {
     types_cells::growth::new_unknown(a, n);
     let number = checker_pieces::all_equal(a, d, n + 1, parts, m, n, 0);
-    if number == 0 {
-        checker_pieces::formers::power(a, n + 1, top, n);
-        return Ruling {
-            number: 0,
-            cell: n + 1,
-            cells: n + 2,
-            top: top + 1,
-        };
+    if number != 0 {
+        return Err(number);
     }
-    Ruling {
-        number: number,
-        cell: n,
-        cells: n,
-        top: top,
-    }
+    checker_pieces::formers::power(a, n + 1, top, n);
+    Ok(Grown {
+        cell: n + 1,
+        cells: n + 2,
+        top: top + 1,
+    })
 }
 
 // The numbers from `first` on, m of them.
@@ -117,10 +109,8 @@ fn count_up(row: &mut [u32], first: usize, m: usize)
     requires { (m ≤ length row.old) × (first + m < 2 ^ 32) }
     ensures { take m row.new ≡ up_from first m }
 {
-    let mut j = 0;
-    while j < m {
-        row[j] = (first + j) as u32;
-        j += 1;
+    for (j, x) in row[..m].iter_mut().enumerate() {
+        *x = (first + j) as u32;
     }
 }
 
@@ -132,29 +122,23 @@ pub fn product_rule(
     top: usize,
     parts: &[u32],
     m: usize,
-) -> Ruling
+) -> Result<Grown, u32>
     requires { (m ≤ 6) × (m ≤ length parts.now) × Operating a.old d.now n top 17 (take m parts.now) }
-    ensures { DerivedList a.old a.new d.now n top (take m parts.now) result.number result.cell result.cells result.top 17 product_items }
+    ensures { Rules n (λ number g. DerivedList a.old a.new d.now n top (take m parts.now) number g.cell g.cells g.top 17 product_items) result }
 {
     let number = checker_pieces::powers::are_powers(a, d, n, top, parts, m);
-    if number == 0 {
-        let mut row = [0u32; limits::PARTS];
-        count_up(&mut row, n, m);
-        let c = n + m + m;
-        let end = top + m + m;
-        checker_pieces::formers::product(a, c, top + m, &row, m);
-        checker_pieces::formers::power(a, c + 1, end, c);
-        return Ruling {
-            number: 0,
-            cell: c + 1,
-            cells: c + 2,
-            top: end + 1,
-        };
+    if number != 0 {
+        return Err(number);
     }
-    Ruling {
-        number: number,
-        cell: n,
-        cells: n,
-        top: top,
-    }
+    let mut row = [0u32; limits::PARTS];
+    count_up(&mut row, n, m);
+    let c = n + m + m;
+    let end = top + m + m;
+    checker_pieces::formers::product(a, c, top + m, &row, m);
+    checker_pieces::formers::power(a, c + 1, end, c);
+    Ok(Grown {
+        cell: c + 1,
+        cells: c + 2,
+        top: end + 1,
+    })
 }

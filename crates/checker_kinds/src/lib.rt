@@ -3,4 +3,3 @@
 
 pub mod building;
 pub mod equations;
-pub mod ruling;

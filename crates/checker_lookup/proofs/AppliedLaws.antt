@@ -39,13 +39,13 @@ module _ (s d : List ℕ) (n top p m : ℕ) (parts : List ℕ) (B : ApplyingAt s
   )
 
   module _ (s₁ : List ℕ) (number : ℕ) (P : Powers s s₁ d n top (run parts 0 m) m number) where
-    pub applied_not : (number ≡ 0 → ⊥) → AppliedAt s s₁ d n top p m parts number 0 n top
-    applied_not f = record {
+    pub applied_not : (number ≡ 0 → ⊥) → (cell n' top' : ℕ) → AppliedAt s s₁ d n top p m parts number cell n' top'
+    applied_not f cell n' top' = record {
       low = P.low;
       uses = λ z. absurd (f z);
       ruled = λ G S g Q k U xs acts.
           let t = typed k (instance (row k 1 m) g) in
-          rule_stops s s₁ d n top k number 0 n top G (are_powers k xs 1 ⨾ t) f (stops_left G.before G.items (are_powers k xs 1) t number k (P.stops f G S k U xs acts));
+          rule_stops s s₁ d n top k number cell n' top' G (are_powers k xs 1 ⨾ t) f (stops_left G.before G.items (are_powers k xs 1) t number k (P.stops f G S k U xs acts));
     }
 
     module _ (z : number ≡ 0) where

@@ -67,13 +67,13 @@ refused H t f m = (refl, refl)
 
 -- A NAME OF THE DICTIONARY, whose entry is e.
 module _ (s d w : List ℕ) (n top id e : ℕ) (found : (D : Dictionary) → Indexed D d w → NameFound D d id e) where
-  pub not_recorded : e ≡ 0 → Global s s d w n top id 31 0 n top
+  pub not_recorded : e ≡ 0 → (cell n' top' : ℕ) → Global s s d w n top id 31 cell n' top'
   unfolding reference_items
-  not_recorded z = record {
+  not_recorded z cell n' top' = record {
     low = refl;
     uses = λ q. absurd (omega arith);
     ruled = λ G S k U D R.
-        rule_stops s s d n top k 31 0 n top G (reference_items k none (name_in id D)) (λ q. omega arith)
+        rule_stops s s d n top k 31 cell n' top' G (reference_items k none (name_in id D)) (λ q. omega arith)
         (subst (λ (x : Named). Stops G.before G.items (reference_items k none x) 31 k) (sym ((found D R.holds).absent z)) (refused G.before G.items 31 k));
   }
 

@@ -71,27 +71,27 @@ actuals_count : (s d : List ℕ) (n : ℕ) (G : Ghost) (parts : List ℕ) (m : �
 actuals_count s d n G parts m l xs K = sym (cells_count s d n G (run parts 0 m) xs K) ∙ rows_length_lem parts m l
 
 -- The rule stops with a refusal.
-pub stopped : (s d : List ℕ) (n top k f : ℕ) (G : Ghost) (own : Items) → own ≡ refusal (suc f) k → Ruled s s d n top k (suc f) 0 n top G own
-stopped s d n top k f G own e =
-    rule_stops s s d n top k (suc f) 0 n top G own (λ q. omega arith) (subst (λ (x : Items). Stops G.before G.items x (suc f) k) (sym e) (refused G.before G.items (suc f) k))
+pub stopped : (s d : List ℕ) (n top k f cell n' top' : ℕ) (G : Ghost) (own : Items) → own ≡ refusal (suc f) k → Ruled s s d n top k (suc f) cell n' top' G own
+stopped s d n top k f cell n' top' G own e =
+    rule_stops s s d n top k (suc f) cell n' top' G own (λ q. omega arith) (subst (λ (x : Items). Stops G.before G.items x (suc f) k) (sym e) (refused G.before G.items (suc f) k))
 
 -- A NAME OF THE DICTIONARY, whose entry is e.
 module _ (s d w : List ℕ) (n top id : ℕ) (parts : List ℕ) (m : ℕ) (B : ConsultedWith s d w n top parts m) (e : ℕ) (found : (D : Dictionary) → Indexed D d w → NameFound D d id e) where
-  pub applied_unknown : e ≡ 0 → GlobalApplied s s d w n top id parts m 31 0 n top
-  applied_unknown z = record {
+  pub applied_unknown : e ≡ 0 → (cell n' top' : ℕ) → GlobalApplied s s d w n top id parts m 31 cell n' top'
+  applied_unknown z cell n' top' = record {
     low = refl;
     uses = λ q. absurd (omega arith);
-    ruled = λ G S k U D R xs acts. stopped s d n top k 30 G (reference_items k xs (name_in id D)) (ap (reference_items k xs) ((found D R.holds).absent z) ∙ unknown_name k xs);
+    ruled = λ G S k U D R xs acts. stopped s d n top k 30 cell n' top' G (reference_items k xs (name_in id D)) (ap (reference_items k xs) ((found D R.holds).absent z) ∙ unknown_name k xs);
   }
 
   module _ (some : e ≡ 0 → ⊥) (p : ℕ) (ep : p ≡ parameters_at d e) where
-    pub applied_count : (p ≡ m → ⊥) → GlobalApplied s s d w n top id parts m 32 0 n top
-    applied_count ne = record {
+    pub applied_count : (p ≡ m → ⊥) → (cell n' top' : ℕ) → GlobalApplied s s d w n top id parts m 32 cell n' top'
+    applied_count ne cell n' top' = record {
       low = refl;
       uses = λ q. absurd (omega arith);
       ruled = λ G S k U D R xs acts.
           let cnt = actuals_count s d n G parts m B.within xs acts in
-          stopped s d n top k 31 G (reference_items k xs (name_in id D))
+          stopped s d n top k 31 cell n' top' G (reference_items k xs (name_in id D))
           (ap (reference_items k xs) (named s d w n top id e found some p ep (type_at d e) refl D R)
           ∙ other_count_lem k xs p (entry s d w n top id e found some p ep (type_at d e) refl D R).type (let l = B.some in omega (arith, l, cnt)) (λ q. ne (sym q ∙ cnt)));
     }
@@ -131,15 +131,15 @@ module _ (s d w : List ℕ) (n top rows id : ℕ) (parts : List ℕ) (m : ℕ) (
     positive : 1 ≤ m
     positive = ⊎_elim (λ z. absurd (ne z)) (λ z. omega arith) (eq-zero-or-pos m)
 
-    pub refers_local : r < rows → RefersWith s s d w n top rows id parts m 32 0 n top
-    refers_local l = record {
+    pub refers_local : r < rows → (cell n' top' : ℕ) → RefersWith s s d w n top rows id parts m 32 cell n' top'
+    refers_local l cell n' top' = record {
       low = refl;
       uses = λ q. absurd (omega arith);
       ruled = λ G S k U Γ D C xs acts.
           let x = found_local (SettledAt s d G) D w 0 rows Γ C.stacked id r F l in
           let y = positive in
           let cnt = actuals_count s d n G parts m B.within xs acts in
-          stopped s d n top k 31 G (reference_items k xs (name_at id Γ)) (ap (reference_items k xs) x.1 ∙ local_name k xs x.0 (omega (arith, y, cnt)));
+          stopped s d n top k 31 cell n' top' G (reference_items k xs (name_at id Γ)) (ap (reference_items k xs) x.1 ∙ local_name k xs x.0 (omega (arith, y, cnt)));
     }
 
     pub consulted_with : ConsultedWith s d w n top parts m

@@ -85,3 +85,6 @@ module _ (d w : List ℕ) (rows id r : ℕ) (F : Finds w 0 rows id r) where
                   (subst (SettledAt s d G (instance nil g)) b (recorded_settled s d G (dictionary_at + q) g (type_reads s d w 0 0 id e found some 0 e0 q eq D C.recorded size))),
             );
       }
+
+pub place_after : (d w : List ℕ) (rows id q : ℕ) → InScope d w rows id (dictionary_at + 1 + q) → InScope d w rows id (dictionary_at + q + 1)
+place_after d w rows id q I = let e : dictionary_at + 1 + q ≡ dictionary_at + q + 1 = omega arith in subst (InScope d w rows id) e I

@@ -88,14 +88,14 @@ module _ (s d w : List ℕ) (n top rows base id k : ℕ) (B : ThetaAsked s d w n
   in_dictionary G Γ D C = stacked_schema (SettledAt s d G) D id Γ (stack w 0 rows) C.stacked
 
   -- 31: no schema
-  pub no_schema_lem : e ≡ 0 → ThetaRuled s s d w w n top rows base id k 31 0 n top
+  pub no_schema_lem : e ≡ 0 → (cell n' top' : ℕ) → ThetaRuled s s d w w n top rows base id k 31 cell n' top'
   unfolding theta_items
-  no_schema_lem z = record {
+  no_schema_lem z cell n' top' = record {
     low = refl;
     uses = λ q. absurd (omega arith);
     below = λ i l. refl;
     ruled = λ G S node U Γ D C.
-        stopped s d n top node 30 G (theta_items node k (schema_named id Γ) Γ) (ap (λ (x : NamedSchema). theta_items node k x Γ) (in_dictionary G Γ D C ∙ (found D C.recorded.holds).absent z));
+        stopped s d n top node 30 cell n' top' G (theta_items node k (schema_named id Γ) Γ) (ap (λ (x : NamedSchema). theta_items node k x Γ) (in_dictionary G Γ D C ∙ (found D C.recorded.holds).absent z));
   }
 
   module _ (some : e ≡ 0 → ⊥) (q : ℕ) (eq : q ≡ type_at d e) where
@@ -208,16 +208,16 @@ module _ (s d w : List ℕ) (n top rows base id k : ℕ) (B : ThetaAsked s d w n
         below₂ i l = T.below i l ∙ below₁ i l
 
         -- 31, 32 or 37
-        pub theta_refused : (number ≡ 0 → ⊥) → ThetaRuled s s d w w₂ n top rows base id k number 0 n top
+        pub theta_refused : (number ≡ 0 → ⊥) → (cell n' top' : ℕ) → ThetaRuled s s d w w₂ n top rows base id k number cell n' top'
         unfolding theta_items
-        theta_refused ne = record {
+        theta_refused ne cell n' top' = record {
           low = refl;
           uses = λ z. absurd (ne z);
           below = below₂;
           ruled = λ G S node U Γ D C.
               let g = (entry D C.recorded).type in
-              subst (λ (x : NamedSchema). Ruled s s d n top node number 0 n top G (theta_items node k x Γ)) (sym (found_schema G Γ D C))
-              (rule_stops s s d n top node number 0 n top G (theta_items node k (a_schema p g) Γ) ne
+              subst (λ (x : NamedSchema). Ruled s s d n top node number cell n' top' G (theta_items node k x Γ)) (sym (found_schema G Γ D C))
+              (rule_stops s s d n top node number cell n' top' G (theta_items node k (a_schema p g) Γ) ne
               (T.stops ne s G Γ (components_of (instance nil g)) (above G Γ D C) node G.before G.items (typed node (binding_of (theta_signature k (components_of (instance nil g)) Γ)))));
         }
 

@@ -14,10 +14,8 @@ fn settle_places(a: &mut [u32], d: &[u32], w: &[u32], base: usize, m: usize, n: 
     requires { Places a.old d.now w.now base m n }
     ensures { PlacesSettled a.old a.new d.now w.now base m n }
 {
-    let mut j = 0;
-    while j < m {
+    for j in 0..m {
         types_cells::growth::new_settled(a, d, n + j, word(w, base + 2 * j + 1));
-        j += 1;
     }
 }
 
@@ -35,10 +33,8 @@ fn put_rows(a: &mut [u32], w: &[u32], base: usize, m: usize, first: usize, n: us
     requires { PuttingRows a.old w.now base m first n top }
     ensures { RowsPut a.old a.new w.now base m first n top m }
 {
-    let mut j = 0;
-    while j < m {
+    for j in 0..m {
         put_row(a, n, top, m, j, first + j, word(w, base + 2 * j));
-        j += 1;
     }
 }
 

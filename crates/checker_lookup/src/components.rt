@@ -11,12 +11,10 @@ pub fn component_rows(a: &[u32], d: &[u32], w: &mut [u32], p: usize, base: usize
 {
     let m = type_word(a, d, p + 1);
     let mut at = p + 2;
-    let mut j = 0;
-    while j < m {
+    for j in 0..m {
         let id = type_word(a, d, at);
         put_row(w, base + 2 * j, id, at + 1);
         at = skip(a, d, at + 1);
-        j += 1;
     }
     m
 }

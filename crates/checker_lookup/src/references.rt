@@ -1,6 +1,7 @@
 // References: a name's type, with an unknown for each parameter.
 ghost use Rattle.checker_lookup.specs.References.{InstanceAsked, InstanceOf, TypedAt, RecordedAt, Generic, Consulted, Global, Referring, Refers, ApplyingAt, AppliedAt, ConsultedWith, GlobalApplied, ReferringWith, RefersWith};
 ghost use Rattle.types_cells.specs.Settled.{Entering};
+ghost use Rattle.checker_pieces.specs.Answering.{Rules};
 
 use checker_dictionary::index::find_name;
 use checker_dictionary::lookup::{parameters_of, type_place};
@@ -11,15 +12,6 @@ use codes::findings;
 use types_cells::area::DICTIONARY;
 use types_solver::entering::Grown;
 use words::word;
-
-// A node's rule: number 0, and the cell has the node's type; or a finding at the node. The number of cells, and where their runs end.
-#[derive(Clone, Copy)]
-pub struct LookupRuling {
-    pub number: u32,
-    pub cell: usize,
-    pub cells: usize,
-    pub top: usize,
-}
 
 // The type at p enters as a cell, with the m cells from `first` on for its parameters. The cells are n, and their runs end at `top`.
 fn instance(
@@ -68,28 +60,24 @@ fn generic(a: &mut [u32], d: &[u32], n: usize, top: usize, p: usize, m: usize) -
 }
 
 // A recorded name, without actuals.
-fn global(a: &mut [u32], d: &[u32], w: &[u32], n: usize, top: usize, id: usize) -> LookupRuling
+fn global(
+    a: &mut [u32],
+    d: &[u32],
+    w: &[u32],
+    n: usize,
+    top: usize,
+    id: usize,
+) -> Result<Grown, u32>
     requires { Consulted a.old d.now w.now n top }
-    ensures { Global a.old a.new d.now w.now n top id result.number result.cell result.cells result.top }
+    ensures { Rules n (λ number g. Global a.old a.new d.now w.now n top id number g.cell g.cells g.top) result }
 {
     let e = find_name(d, w, id);
     if e == 0 {
-        return LookupRuling {
-            number: findings::UNKNOWN_NAME,
-            cell: 0,
-            cells: n,
-            top: top,
-        };
+        return Err(findings::UNKNOWN_NAME);
     }
     let m = parameters_of(d, e);
     let p = DICTIONARY + type_place(d, e);
-    let g = generic(a, d, n, top, p, m);
-    LookupRuling {
-        number: 0,
-        cell: g.cell,
-        cells: g.cells,
-        top: g.top,
-    }
+    Ok(generic(a, d, n, top, p, m))
 }
 
 // A name in scope, without actuals: the rows of its stack stand in w.
@@ -101,19 +89,13 @@ pub fn reference(
     top: usize,
     rows: usize,
     id: usize,
-) -> LookupRuling
+) -> Result<Grown, u32>
     requires { Referring a.old d.now w.now n top rows }
-    ensures { Refers a.old a.new d.now w.now n top rows id result.number result.cell result.cells result.top }
+    ensures { Rules n (λ number g. Refers a.old a.new d.now w.now n top rows id number g.cell g.cells g.top) result }
 {
     let r = find(w, 0, rows, id);
     if r < rows {
-        let g = settled(a, d, n, top, word(w, 2 * r + 1));
-        return LookupRuling {
-            number: 0,
-            cell: g.cell,
-            cells: g.cells,
-            top: g.top,
-        };
+        return Ok(settled(a, d, n, top, word(w, 2 * r + 1)));
     }
     global(a, d, w, n, top, id)
 }
@@ -127,26 +109,15 @@ fn applied(
     p: usize,
     m: usize,
     parts: &[u32],
-) -> LookupRuling
+) -> Result<Grown, u32>
     requires { ApplyingAt a.old d.now n top p m parts.now }
-    ensures { AppliedAt a.old a.new d.now n top p m parts.now result.number result.cell result.cells result.top }
+    ensures { Rules n (λ number g. AppliedAt a.old a.new d.now n top p m parts.now number g.cell g.cells g.top) result }
 {
     let number = are_powers(a, d, n, top, parts, m);
     if number != 0 {
-        return LookupRuling {
-            number: number,
-            cell: 0,
-            cells: n,
-            top: top,
-        };
+        return Err(number);
     }
-    let g = instance(a, d, n + m + m, top + m, p, n, m);
-    LookupRuling {
-        number: 0,
-        cell: g.cell,
-        cells: g.cells,
-        top: g.top,
-    }
+    Ok(instance(a, d, n + m + m, top + m, p, n, m))
 }
 
 // A recorded name with m actuals, one at least.
@@ -159,26 +130,16 @@ fn global_applied(
     id: usize,
     parts: &[u32],
     m: usize,
-) -> LookupRuling
+) -> Result<Grown, u32>
     requires { ConsultedWith a.old d.now w.now n top parts.now m }
-    ensures { GlobalApplied a.old a.new d.now w.now n top id parts.now m result.number result.cell result.cells result.top }
+    ensures { Rules n (λ number g. GlobalApplied a.old a.new d.now w.now n top id parts.now m number g.cell g.cells g.top) result }
 {
     let e = find_name(d, w, id);
     if e == 0 {
-        return LookupRuling {
-            number: findings::UNKNOWN_NAME,
-            cell: 0,
-            cells: n,
-            top: top,
-        };
+        return Err(findings::UNKNOWN_NAME);
     }
     if parameters_of(d, e) != m {
-        return LookupRuling {
-            number: findings::WRONG_COUNT,
-            cell: 0,
-            cells: n,
-            top: top,
-        };
+        return Err(findings::WRONG_COUNT);
     }
     let p = DICTIONARY + type_place(d, e);
     applied(a, d, n, top, p, m, parts)
@@ -195,21 +156,16 @@ pub fn ref_rule(
     id: usize,
     parts: &[u32],
     m: usize,
-) -> LookupRuling
+) -> Result<Grown, u32>
     requires { ReferringWith a.old d.now w.now n top rows parts.now m }
-    ensures { RefersWith a.old a.new d.now w.now n top rows id parts.now m result.number result.cell result.cells result.top }
+    ensures { Rules n (λ number g. RefersWith a.old a.new d.now w.now n top rows id parts.now m number g.cell g.cells g.top) result }
 {
     if m == 0 {
         return reference(a, d, w, n, top, rows, id);
     }
     let r = find(w, 0, rows, id);
     if r < rows {
-        return LookupRuling {
-            number: findings::WRONG_COUNT,
-            cell: 0,
-            cells: n,
-            top: top,
-        };
+        return Err(findings::WRONG_COUNT);
     }
     global_applied(a, d, w, n, top, id, parts, m)
 }

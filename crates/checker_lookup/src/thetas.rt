@@ -1,38 +1,36 @@
 // Theta: the binding of a schema's components, with the types that their decorated identifiers have in scope.
-ghost use Rattle.std.specs.Prelude.{◌+◌, ◌*◌, ◌≤◌, length};
+ghost use Rattle.std.specs.Prelude.{◌+◌, ◌*◌, ◌≤◌, length, MatchOption};
+ghost use Rattle.checker_pieces.specs.Answering.{Rules};
 ghost use Rattle.checker_lookup.specs.Thetas.{InScope, RowsAsked, RowPlaced, RowsPlaced, ThetaChecks, ThetaAsked, ThetaRuled};
 
 use crate::bindings::binding;
 use crate::components::component_rows;
-use crate::references::LookupRuling;
 use checker_dictionary::index::{find_name, find_schema};
 use checker_dictionary::lookup::{parameters_of, type_place};
 use checker_signatures::includes::{some_stroked, takes};
 use checker_signatures::tables::find;
 use codes::findings;
 use types_cells::area::DICTIONARY;
+use types_solver::entering::Grown;
 use words::{store, word};
 
-// Where the dictionary's words begin among the places, counted from 1.
-const AFTER_DICTIONARY: usize = DICTIONARY + 1;
-
-// The place of the type of an identifier in scope that is not generic, plus 1; 0 where there is none.
-pub fn place_in_scope(d: &[u32], w: &[u32], rows: usize, id: usize) -> usize
+// The place of the type of an identifier in scope that is not generic.
+pub fn place_in_scope(d: &[u32], w: &[u32], rows: usize, id: usize) -> Option<usize>
     requires { 2 * rows ≤ length w.now }
-    ensures { InScope d.now w.now rows id result }
+    ensures { MatchOption result (InScope d.now w.now rows id 0) (λ p. InScope d.now w.now rows id (p + 1)) }
 {
     let r = find(w, 0, rows, id);
     if r < rows {
-        return word(w, 2 * r + 1) + 1;
+        return Some(word(w, 2 * r + 1));
     }
     let e = find_name(d, w, id);
     if e == 0 {
-        return 0;
+        return None;
     }
     if parameters_of(d, e) != 0 {
-        return 0;
+        return None;
     }
-    AFTER_DICTIONARY + type_place(d, e)
+    Some(DICTIONARY + type_place(d, e))
 }
 
 // The place of the row at `at` becomes that of the decorated identifier's type in scope. False: it has none there. An identifier that
@@ -45,12 +43,13 @@ fn place_row(d: &[u32], w: &mut [u32], rows: usize, at: usize, stroke: usize) ->
     if !takes(stroke, id) {
         return true;
     }
-    let p = place_in_scope(d, w, rows, id + stroke);
-    if p == 0 {
-        return false;
+    match place_in_scope(d, w, rows, id + stroke) {
+        Some(p) => {
+            store(w, at + 1, p as u32);
+            true
+        }
+        None => false,
     }
-    store(w, at + 1, (p - 1) as u32);
-    true
 }
 
 // The same for each of the m rows at base.
@@ -58,12 +57,10 @@ fn place_rows(d: &[u32], w: &mut [u32], rows: usize, base: usize, m: usize, stro
     requires { RowsAsked d.now w.old rows base m stroke }
     ensures { RowsPlaced d.now w.old w.new rows base m stroke result }
 {
-    let mut j = 0;
-    while j < m {
+    for j in 0..m {
         if !place_row(d, w, rows, base + 2 * j, stroke) {
             return false;
         }
-        j += 1;
     }
     true
 }
@@ -104,34 +101,18 @@ pub fn theta_rule(
     base: usize,
     id: usize,
     stroke: usize,
-) -> LookupRuling
+) -> Result<Grown, u32>
     requires { ThetaAsked a.old d.now w.old n top rows base stroke }
-    ensures { ThetaRuled a.old a.new d.now w.old w.new n top rows base id stroke result.number result.cell result.cells result.top }
+    ensures { Rules n (λ number g. ThetaRuled a.old a.new d.now w.old w.new n top rows base id stroke number g.cell g.cells g.top) result }
 {
     let e = find_schema(d, w, id);
     if e == 0 {
-        return LookupRuling {
-            number: findings::UNKNOWN_NAME,
-            cell: 0,
-            cells: n,
-            top: top,
-        };
+        return Err(findings::UNKNOWN_NAME);
     }
     let m = component_rows(a, d, w, DICTIONARY + type_place(d, e), base);
     let number = checks(d, w, rows, base, m, parameters_of(d, e), stroke);
     if number != 0 {
-        return LookupRuling {
-            number: number,
-            cell: 0,
-            cells: n,
-            top: top,
-        };
+        return Err(number);
     }
-    let g = binding(a, d, w, base, m, n, top);
-    LookupRuling {
-        number: 0,
-        cell: g.cell,
-        cells: g.cells,
-        top: g.top,
-    }
+    Ok(binding(a, d, w, base, m, n, top))
 }

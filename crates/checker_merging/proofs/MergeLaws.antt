@@ -11,7 +11,7 @@ use Rattle.types_rules.proofs.Terms.{bool_no}
 use Rattle.checker_rules.specs.Items.{Items, ◌⨾◌, Refuses, MeetsIn}
 use Rattle.checker_rules.specs.Signatures.{Signature, no_names, naming, term_in}
 use Rattle.checker_rules.specs.Conditions.{same_type, merge_declared, merge_names}
-use Rattle.types_cells.specs.Settled.{heap, Reads, Readable, Readings, SameType}
+use Rattle.types_cells.specs.Settled.{heap, Reads, SameType}
 use Rattle.reader_rules.specs.Decode.{pairs_from}
 use Rattle.checker_signatures.specs.Rows.{rows}
 use Rattle.checker_signatures.specs.Tables.{Finds}
@@ -20,7 +20,7 @@ use Rattle.checker_signatures.proofs.CallLaws.{found_term, no_term}
 use Rattle.checker_signatures.proofs.CarryLaws.{carries_other}
 use Rattle.checker_pieces.specs.Piece.{Steady, Walked}
 use Rattle.checker_pieces.proofs.Between.{walked_skip, walked_then, equal_noted, equal_refused, settled_later, refuses_first, refuses_second}
-use Rattle.checker_merging.specs.Merging.{TypedAt, DeclaredAsk, OneTold, DeclaredTold, RowsAsk, RowsTold}
+use Rattle.checker_merging.specs.Merging.{TypedAt, OneTold, DeclaredTold, RowsTold}
 
 abbrev None : ℕ → Type 0
 None x = ⊥
@@ -69,9 +69,6 @@ module _ (s d w : List ℕ) (base m p id r : ℕ) (F : Finds w base m id r) wher
       goes' : true ≡ true → (H : Items) (U : List ℕ) (n : ℕ) (t : Term) (z : Signature) → Steady H U → TypedAt s d H U t p → Carries (TypedAt s d H U) z (rows w base m) →
           Walked H (same_type n t (term_in id z)) U U None
       goes' e H U n t z D A C = subst (λ o. Walked H (same_type n t o) U U None) (sym (no_term (R H U) w base m id r F z C h)) (walked_skip H U None D)
-
-pub readings_of : (s d w : List ℕ) (base m p r q : ℕ) → DeclaredAsk s d w base m p → r < m → q ≡ get_or w (base + 2 * r + 1) 0 → Readings s d p q
-readings_of s d w base m p r q A l e = record { areas = A.areas; left = A.type; right = subst (Readable (heap s d)) (sym e) (A.table.readable r l) }
 
 -- Items more: types stay.
 pub typed_later : (s d : List ℕ) (H c : Items) (U : List ℕ) (t : Term) (p : ℕ) → TypedAt s d H U t p → TypedAt s d (H ⨾ c) U t p
@@ -182,33 +179,20 @@ module _ (s d w : List ℕ) (base m : ℕ) where
             let W = first H U n i t r S C.0 C.1 D in
             refuses_second H c (merge_names n q r) 36 n W.goes (N.stops z (H ⨾ c) U n q r W.steady (carries_later s d H c U q _ C.2) (carries_later s d H c U r _ D))
 
-  pub rows_asked : (source k : ℕ) → (k ≡ 0 → ⊥) → RowsAsk s d w base m source k → (p : ℕ) → p ≡ get_or w (source + 1) 0 → DeclaredAsk s d w base m p
-  rows_asked source k e A p q = record {
-    areas = A.areas;
-    table = A.table;
-    type = subst (Readable (heap s d)) (ap (λ z. get_or w z 0) (let z : source + 2 * 0 + 1 ≡ source + 1 = omega arith in z) ∙ sym q) (A.others.readable 0 (omega (arith, e)));
-  }
+  -- Row number n of k.
+  module _ (source k n : ℕ) (some : n < k) (i p : ℕ) (ei : i ≡ get_or w (source + 2 * n) 0) (ep : p ≡ get_or w (source + 2 * n + 1) 0) (c : Bool) (O : OneTold s d w base m p i c) where
+    abbrev at : ℕ
+    at = source + 2 * n
 
-  pub rows_fewer : (source k : ℕ) → (k ≡ 0 → ⊥) → RowsAsk s d w base m source k → RowsAsk s d w base m (source + 2) (k - 1)
-  rows_fewer source k e A = record {
-    areas = A.areas;
-    table = A.table;
-    others = record {
-      inside = let z = A.others.inside in omega (arith, e);
-      readable = λ i l. subst (λ z. Readable (heap s d) (get_or w z 0)) (let z : source + 2 * suc i + 1 ≡ source + 2 + 2 * i + 1 = omega arith in z) (A.others.readable (suc i) (omega (arith, e, l)));
-    };
-  }
-
-  module _ (source k : ℕ) (some : k ≡ 0 → ⊥) (i p : ℕ) (ei : i ≡ get_or w source 0) (ep : p ≡ get_or w (source + 1) 0) (c : Bool) (O : OneTold s d w base m p i c) where
-    less : k ≡ suc (k - 1)
+    less : k - n ≡ suc (k - (n + 1))
     less = omega (arith, some)
 
-    told : OneTold s d w base m (get_or w (suc source) 0) (get_or w source 0) c
-    told = subst (λ z. OneTold s d w base m z (get_or w source 0) c) (ep ∙ ap (λ z. get_or w z 0) (let z : source + 1 ≡ suc source = omega arith in z)) (subst (λ z. OneTold s d w base m p z c) ei O)
+    told : OneTold s d w base m (get_or w (suc at) 0) (get_or w at 0) c
+    told = subst (λ z. OneTold s d w base m z (get_or w at 0) c) (ep ∙ ap (λ z. get_or w z 0) (let z : at + 1 ≡ suc at = omega arith in z)) (subst (λ z. OneTold s d w base m p z c) ei O)
 
-    pub rows_stop : c ≡ false → RowsTold s d w base m source k false
-    rows_stop q = rows_break source k (k - 1) less (subst (OneTold s d w base m _ _) q told)
+    pub rows_stop : c ≡ false → RowsTold s d w base m at (k - n) false
+    rows_stop q = rows_break at (k - n) (k - (n + 1)) less (subst (OneTold s d w base m _ _) q told)
 
-    pub rows_go : c ≡ true → (b : Bool) → RowsTold s d w base m (source + 2) (k - 1) b → RowsTold s d w base m source k b
-    rows_go q b N = rows_next source k (k - 1) less (subst (OneTold s d w base m _ _) q told) b
-        (subst (λ z. RowsTold s d w base m z (k - 1) b) (let z : source + 2 ≡ suc (suc source) = omega arith in z) N)
+    pub rows_go : c ≡ true → (b : Bool) → RowsTold s d w base m (source + 2 * (n + 1)) (k - (n + 1)) b → RowsTold s d w base m at (k - n) b
+    rows_go q b N = rows_next at (k - n) (k - (n + 1)) less (subst (OneTold s d w base m _ _) q told) b
+        (subst (λ z. RowsTold s d w base m z (k - (n + 1)) b) (let z : source + 2 * (n + 1) ≡ suc (suc at) = omega arith in z) N)

@@ -2,7 +2,7 @@
 use mathlib.Core.Path.{◌≡◌, refl, sym, ap, subst, ◌∙◌}
 use mathlib.Core.Bool.{Bool, true, false}
 use mathlib.Core.List.{List, [], ◌∷◌}
-use Prim.Native.Nat.{ℕ, suc, ◌+◌, ◌-◌, ◌≤◌, ◌<◌}
+use Prim.Native.Nat.{ℕ, suc, ◌+◌, ◌-◌, ◌*◌, ◌≤◌, ◌<◌}
 use native.Mathlib.Omega.{arith}
 use lib.ListN.{length, get_or, drop}
 use Rattle.words.proofs.Lists.{drop_next}
@@ -72,16 +72,19 @@ module _ (d w : List ℕ) where
   unfolding pairs_from identifiers_of
   rows_end source m e = new_none (identifiers_of (rows w source m)) (ap (λ z. identifiers_of (rows w source z)) e)
 
-  module _ (source m i : ℕ) (some : m ≡ 0 → ⊥) (e : i ≡ get_or w source 0) (k : ℕ) (F : (D : Dictionary) → Indexed D d w → NameFound D d i k) where
-    there : identifiers_of (rows w source m) ≡ i ∷ identifiers_of (rows w (source + 2) (m - 1))
+  module _ (source m n i : ℕ) (some : n < m) (e : i ≡ get_or w (source + 2 * n) 0) (k : ℕ) (F : (D : Dictionary) → Indexed D d w → NameFound D d i k) where
+    abbrev at : ℕ
+    at = source + 2 * n
+
+    there : identifiers_of (rows w at (m - n)) ≡ i ∷ identifiers_of (rows w (source + 2 * (n + 1)) (m - (n + 1)))
     unfolding pairs_from identifiers_of
     there =
-        ap (λ z. identifiers_of (rows w source z)) (let z : m ≡ suc (m - 1) = omega (arith, some) in z)
-        ∙ ap (λ z. z ∷ identifiers_of (rows w (suc (suc source)) (m - 1))) (sym e)
-        ∙ ap (λ z. i ∷ identifiers_of (rows w z (m - 1))) (let z : suc (suc source) ≡ source + 2 = omega arith in z)
+        ap (λ z. identifiers_of (rows w at z)) (let z : m - n ≡ suc (m - (n + 1)) = omega (arith, some) in z)
+        ∙ ap (λ z. z ∷ identifiers_of (rows w (suc (suc at)) (m - (n + 1)))) (sym e)
+        ∙ ap (λ z. i ∷ identifiers_of (rows w z (m - (n + 1)))) (let z : suc (suc at) ≡ source + 2 * (n + 1) = omega arith in z)
 
-    pub rows_stop : (k ≡ 0 → ⊥) → NewTold d w (identifiers_of (rows w source m)) false
-    rows_stop q = new_break (identifiers_of (rows w source m)) i (identifiers_of (rows w (source + 2) (m - 1))) there k F (omega (arith, q))
+    pub rows_stop : (k ≡ 0 → ⊥) → NewTold d w (identifiers_of (rows w at (m - n))) false
+    rows_stop q = new_break (identifiers_of (rows w at (m - n))) i (identifiers_of (rows w (source + 2 * (n + 1)) (m - (n + 1)))) there k F (omega (arith, q))
 
-    pub rows_go : k ≡ 0 → (b : Bool) → NewTold d w (identifiers_of (rows w (source + 2) (m - 1))) b → NewTold d w (identifiers_of (rows w source m)) b
-    rows_go q b N = new_next (identifiers_of (rows w source m)) i (identifiers_of (rows w (source + 2) (m - 1))) there k F q b N
+    pub rows_go : k ≡ 0 → (b : Bool) → NewTold d w (identifiers_of (rows w (source + 2 * (n + 1)) (m - (n + 1)))) b → NewTold d w (identifiers_of (rows w at (m - n))) b
+    rows_go q b N = new_next (identifiers_of (rows w at (m - n))) i (identifiers_of (rows w (source + 2 * (n + 1)) (m - (n + 1)))) there k F q b N

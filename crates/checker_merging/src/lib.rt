@@ -35,13 +35,12 @@ pub fn declared_agree(
     requires { DeclaredAsk a.now d.now work.now base m p }
     ensures { DeclaredTold a.now d.now work.now base m p (drop j part.now) result }
 {
-    if part.len() <= j {
-        return true;
+    for i in j..part.len() {
+        if !agrees(a, d, work, base, m, word(part, i), p) {
+            return false;
+        }
     }
-    if agrees(a, d, work, base, m, word(part, j), p) {
-        return declared_agree(a, d, work, base, m, part, j + 1, p);
-    }
-    false
+    true
 }
 
 // The k rows at source beside the m rows at base.
@@ -57,34 +56,27 @@ pub fn rows_agree(
     requires { RowsAsk a.now d.now work.now base m source k }
     ensures { RowsTold a.now d.now work.now base m source k result }
 {
-    if k == 0 {
-        return true;
+    for i in 0..k {
+        let at = source + 2 * i;
+        let id = word(work, at);
+        let place = word(work, at + 1);
+        if !agrees(a, d, work, base, m, id, place) {
+            return false;
+        }
     }
-    if agrees(
-        a,
-        d,
-        work,
-        base,
-        m,
-        word(work, source),
-        word(work, source + 1),
-    ) {
-        return rows_agree(a, d, work, base, m, source + 2, k - 1);
-    }
-    false
+    true
 }
 
 // No identifier among the words from j on of the part has an entry in the dictionary, whose index the work area has.
 pub fn names_new(d: &[u32], work: &[u32], part: &[u32], j: usize) -> bool
     ensures { NewTold d.now work.now (drop j part.now) result }
 {
-    if part.len() <= j {
-        return true;
+    for i in j..part.len() {
+        if find_name(d, work, word(part, i)) != 0 {
+            return false;
+        }
     }
-    if find_name(d, work, word(part, j)) == 0 {
-        return names_new(d, work, part, j + 1);
-    }
-    false
+    true
 }
 
 // The same of the k rows at source.
@@ -92,11 +84,10 @@ pub fn rows_new(d: &[u32], work: &[u32], source: usize, k: usize) -> bool
     requires { source + 2 * k ≤ length work.now }
     ensures { NewTold d.now work.now (identifiers_of (rows work.now source k)) result }
 {
-    if k == 0 {
-        return true;
+    for i in 0..k {
+        if find_name(d, work, word(work, source + 2 * i)) != 0 {
+            return false;
+        }
     }
-    if find_name(d, work, word(work, source)) == 0 {
-        return rows_new(d, work, source + 2, k - 1);
-    }
-    false
+    true
 }

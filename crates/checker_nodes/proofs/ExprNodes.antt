@@ -23,13 +23,28 @@ use Rattle.checker_contracts.specs.Expressions.{ExprAsk, ExprDone}
 use Rattle.checker_contracts.specs.Shapes.{Over, Joining}
 use Rattle.checker_contracts.proofs.Shapes.{power_over, select_over, apply_joining, arithmetic_joining}
 use Rattle.checker_contracts.proofs.Expressions.{over_ask, over_stops, over_working, over_done, joining_ask, joining_stops, joining_then_ask, joining_then_stops, joining_working, joining_done}
-use Rattle.checker_closing.specs.Nodes.{Node, VisitAt}
+use Rattle.std.specs.Prelude.{Result, Ok, Err}
+use Rattle.types_solver.specs.declared.entering.Grown.{Grown}
+use Rattle.checker_pieces.specs.Answering.{Rules}
+use Rattle.checker_closing.specs.Nodes.{Node, VisitAt, RuledAt}
 use Rattle.checker_closing.specs.declared.results.Visit.{Visit}
 
 -- An answer by its fields.
 pub visit_done : {s s' d w w' : List ℕ} {rows n top at free : ℕ} {e : Expr} {number place cell n' top' at' : ℕ} {r : Visit} → VisitAt r number place cell n' top' at' →
     ExprDone s s' d w w' rows n top at free e number place cell n' top' at' → ExprDone s s' d w w' rows n top at free e r.number r.place r.cell r.cells r.top r.at
 visit_done R E = rw (R.number_is, R.place_is, R.cell_is, R.cells_are, R.top_is, R.at_is) E
+
+-- On a finding nothing is told of a cell, of cells or of areas.
+refused_done : {s s' d w w' : List ℕ} {rows n top at free : ℕ} {e : Expr} {number place cell n' top' at' cell' n'' top'' : ℕ} → (number ≡ 0 → ⊥) →
+    ExprDone s s' d w w' rows n top at free e number place cell n' top' at' → ExprDone s s' d w w' rows n top at free e number place cell' n'' top'' at'
+refused_done ne E = record { spared = E.spared; areas = λ z. absurd (ne z); goes = λ z. absurd (ne z); stops = E.stops }
+
+-- The answer of a rule.
+pub ruled_done : {s s' d w w' : List ℕ} {rows n top at free : ℕ} {e : Expr} {m k at' : ℕ} {P : ℕ → Grown → Type 0} {v : Visit} (r : Result Grown ℕ) → RuledAt v r k at' → Rules m P r →
+    ((number : ℕ) (g : Grown) → P number g → ExprDone s s' d w w' rows n top at free e number k g.cell g.cells g.top at') → ExprDone s s' d w w' rows n top at free e v.number v.place v.cell v.cells v.top v.at
+ruled_done (Ok g) A R f = visit_done A.is (f 0 g R.is)
+ruled_done {m = m} (Err number) A R f =
+    let g : Grown = record { cell = 0; cells = m; top = 0 } in visit_done A.is (refused_done R.is.0 (f number g (R.is.1 g (omega arith))))
 
 -- A word of a node's part.
 pub node_word : {doc p : List ℕ} {s k : ℕ} → Node doc p s k → (i v : ℕ) → v ≡ get_or p i 0 → v ≡ operand_at doc k i
@@ -76,10 +91,10 @@ module _ {doc s d w : List ℕ} {rows n top at free k a : ℕ} (own : ℕ → Te
     pub over_rule : number ≡ 0 → (r : ℕ) → r ≤ 2 * node_cells → Working s₁ d n₁ top₁ r (x ∷ [])
     over_rule z r p = over_working s d w rows n top at free (expr_at doc k) (expr_at doc a) k own O.shape K s₁ w₁ number place x n₁ top₁ at₁ E z r p
 
-    pub over_end : number ≡ 0 → {s₂ : List ℕ} {answer cell n₂ top₂ used : ℕ} {r : Visit} → used ≤ node_cells → length s₂ ≡ length s₁ → Derived s₁ s₂ d n₁ top₁ x answer cell n₂ top₂ used own →
-        VisitAt r answer k cell n₂ top₂ at₁ → ExprDone s s₂ d w w₁ rows n top at free (expr_at doc k) r.number r.place r.cell r.cells r.top r.at
-    over_end z {s₂} {answer} {cell} {n₂} {top₂} {used} few size R A =
-        visit_done A (over_done s d w rows n top at free (expr_at doc k) (expr_at doc a) k own O.shape K s₁ w₁ number place x n₁ top₁ at₁ E z s₂ answer cell n₂ top₂ used few size R)
+    pub over_end : number ≡ 0 → {s₂ : List ℕ} {answer cell n₂ top₂ used : ℕ} → used ≤ node_cells → length s₂ ≡ length s₁ → Derived s₁ s₂ d n₁ top₁ x answer cell n₂ top₂ used own →
+        ExprDone s s₂ d w w₁ rows n top at free (expr_at doc k) answer k cell n₂ top₂ at₁
+    over_end z {s₂} {answer} {cell} {n₂} {top₂} {used} few size R =
+        over_done s d w rows n top at free (expr_at doc k) (expr_at doc a) k own O.shape K s₁ w₁ number place x n₁ top₁ at₁ E z s₂ answer cell n₂ top₂ used few size R
 
 -- TWO OPERANDS at nodes a and b.
 pub record JoiningNode (doc : List ℕ) (k a b : ℕ) (own : ℕ → Term → Term → Items) : Type 0 where
@@ -128,8 +143,7 @@ module _ {doc s d w : List ℕ} {rows n top at free k a b : ℕ} (own : ℕ → 
           joining_rule r p =
               joining_working s d w rows n top at free (expr_at doc k) (expr_at doc a) (expr_at doc b) k own O.shape K s₁ w₁ number place x n₁ top₁ at₁ E z s₂ w₂ number₂ place₂ y n₂ top₂ at₂ E₂ z₂ r p
 
-          pub joining_end : {s₃ : List ℕ} {answer cell n₃ top₃ used : ℕ} {r : Visit} → used ≤ node_cells → length s₃ ≡ length s₂ → Combined s₂ s₃ d n₂ top₂ x y answer cell n₃ top₃ used own →
-              VisitAt r answer k cell n₃ top₃ at₂ → ExprDone s s₃ d w w₂ rows n top at free (expr_at doc k) r.number r.place r.cell r.cells r.top r.at
-          joining_end {s₃} {answer} {cell} {n₃} {top₃} {used} few size R A =
-              visit_done A
-              (joining_done s d w rows n top at free (expr_at doc k) (expr_at doc a) (expr_at doc b) k own O.shape K s₁ w₁ number place x n₁ top₁ at₁ E z s₂ w₂ number₂ place₂ y n₂ top₂ at₂ E₂ z₂ s₃ answer cell n₃ top₃ used few size R)
+          pub joining_end : {s₃ : List ℕ} {answer cell n₃ top₃ used : ℕ} → used ≤ node_cells → length s₃ ≡ length s₂ → Combined s₂ s₃ d n₂ top₂ x y answer cell n₃ top₃ used own →
+              ExprDone s s₃ d w w₂ rows n top at free (expr_at doc k) answer k cell n₃ top₃ at₂
+          joining_end {s₃} {answer} {cell} {n₃} {top₃} {used} few size R =
+              joining_done s d w rows n top at free (expr_at doc k) (expr_at doc a) (expr_at doc b) k own O.shape K s₁ w₁ number place x n₁ top₁ at₁ E z s₂ w₂ number₂ place₂ y n₂ top₂ at₂ E₂ z₂ s₃ answer cell n₃ top₃ used few size R

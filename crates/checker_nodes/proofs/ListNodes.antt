@@ -34,7 +34,7 @@ use Rattle.checker_contracts.proofs.Lists.{exprs_none, more_ask, more_stops, mor
 use Rattle.checker_contracts.proofs.Listing.{listing_ask, listing_stops, listing_fit, listing_operating, listing_building, listing_done, listing_referring, listing_refers}
 use Rattle.checker_closing.specs.Nodes.{Node, VisitAt}
 use Rattle.checker_closing.specs.declared.results.Visit.{Visit}
-use Rattle.checker_nodes.proofs.ExprNodes.{visit_done, node_word}
+use Rattle.checker_nodes.proofs.ExprNodes.{node_word}
 use Rattle.types_cells.specs.Layout.{max_cells}
 
 -- A node has at most 256 words.
@@ -198,19 +198,15 @@ module _ {doc p s d w : List ℕ} {rows n top at free k i : ℕ} {own : Scope �
       pub listing_build : (r : ℕ) → r ≤ 2 * node_cells → Building s₁ n₁ top₁ r (take m parts₁)
       listing_build r q = listing_building s d w rows n top at free (expr_at doc k) (operands doc p k i) k own O.shape K parts fit s₁ w₁ parts₁ number place n₁ top₁ at₁ E z m same r q
 
-      pub listing_end : {s₂ : List ℕ} {answer cell n₂ top₂ used : ℕ} {r : Visit} (rule : ℕ → Exprs → Items) → ((Γ : Scope) → own Γ ≡ rule k (operands doc p k i)) → used ≤ node_cells → length s₂ ≡ length s₁ →
-          DerivedList s₁ s₂ d n₁ top₁ (take m parts₁) answer cell n₂ top₂ used rule → VisitAt r answer k cell n₂ top₂ at₁ →
-          ExprDone s s₂ d w w₁ rows n top at free (expr_at doc k) r.number r.place r.cell r.cells r.top r.at
-      listing_end {s₂} {answer} {cell} {n₂} {top₂} {used} rule same-items few size R A =
-          visit_done A
-          (listing_done s d w rows n top at free (expr_at doc k) (operands doc p k i) k own O.shape K parts fit s₁ w₁ parts₁ number place n₁ top₁ at₁ E z m same s₂ answer cell n₂ top₂ used rule same-items few size R)
+      pub listing_end : {s₂ : List ℕ} {answer cell n₂ top₂ used : ℕ} (rule : ℕ → Exprs → Items) → ((Γ : Scope) → own Γ ≡ rule k (operands doc p k i)) → used ≤ node_cells → length s₂ ≡ length s₁ →
+          DerivedList s₁ s₂ d n₁ top₁ (take m parts₁) answer cell n₂ top₂ used rule → ExprDone s s₂ d w w₁ rows n top at free (expr_at doc k) answer k cell n₂ top₂ at₁
+      listing_end {s₂} {answer} {cell} {n₂} {top₂} {used} rule same-items few size R =
+          listing_done s d w rows n top at free (expr_at doc k) (operands doc p k i) k own O.shape K parts fit s₁ w₁ parts₁ number place n₁ top₁ at₁ E z m same s₂ answer cell n₂ top₂ used rule same-items few size R
 
       pub listing_refer : ReferringWith s₁ d w₁ n₁ top₁ rows parts₁ m
       listing_refer = listing_referring s d w rows n top at free (expr_at doc k) (operands doc p k i) k own O.shape K parts fit s₁ w₁ parts₁ number place n₁ top₁ at₁ E z m same
 
-      pub listing_referred : {s₂ : List ℕ} {id answer cell n₂ top₂ : ℕ} {r : Visit} → ((Γ : Scope) → own Γ ≡ reference_items k (operands doc p k i) (name_at id Γ)) → length s₂ ≡ length s₁ →
-          RefersWith s₁ s₂ d w₁ n₁ top₁ rows id parts₁ m answer cell n₂ top₂ → VisitAt r answer k cell n₂ top₂ at₁ →
-          ExprDone s s₂ d w w₁ rows n top at free (expr_at doc k) r.number r.place r.cell r.cells r.top r.at
-      listing_referred {s₂} {id} {answer} {cell} {n₂} {top₂} same-items size R A =
-          visit_done A
-          (listing_refers s d w rows n top at free (expr_at doc k) (operands doc p k i) k own O.shape K parts fit s₁ w₁ parts₁ number place n₁ top₁ at₁ E z m same s₂ id answer cell n₂ top₂ same-items size R)
+      pub listing_referred : {s₂ : List ℕ} {id answer cell n₂ top₂ : ℕ} → ((Γ : Scope) → own Γ ≡ reference_items k (operands doc p k i) (name_at id Γ)) → length s₂ ≡ length s₁ →
+          RefersWith s₁ s₂ d w₁ n₁ top₁ rows id parts₁ m answer cell n₂ top₂ → ExprDone s s₂ d w w₁ rows n top at free (expr_at doc k) answer k cell n₂ top₂ at₁
+      listing_referred {s₂} {id} {answer} {cell} {n₂} {top₂} same-items size R =
+          listing_refers s d w rows n top at free (expr_at doc k) (operands doc p k i) k own O.shape K parts fit s₁ w₁ parts₁ number place n₁ top₁ at₁ E z m same s₂ id answer cell n₂ top₂ same-items size R

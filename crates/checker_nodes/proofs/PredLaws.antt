@@ -1,15 +1,14 @@
 -- Predicates by the words of their node: true, not, the connectives.
-use mathlib.Core.Path.{◌≡◌, refl, sym, ap, subst, ◌∙◌}
+use mathlib.Core.Path.{◌≡◌, refl, sym, subst}
 use mathlib.Core.List.{List}
 use mathlib.Core.Logic.{⊎_elim}
 use Prim.Native.Nat.{ℕ, ◌≤◌, ◌<◌}
 use native.Mathlib.Omega.{arith}
 use lib.ListN.{length, get_or}
-use Rattle.layout.specs.Layout.{part}
 use Rattle.reader_rules.specs.Decode.{pred_at, connective_of}
 use Rattle.reader_rules.specs.Kinds.{predicates}
-use Rattle.reader_rules.specs.Nodes.{kind_at, operand_at}
-use Rattle.reader_rules.specs.Promise.{At, Lower}
+use Rattle.reader_rules.specs.Nodes.{kind_at}
+use Rattle.reader_rules.specs.Promise.{Lower}
 use Rattle.reader_rules.specs.Tree.{Pred, not, connected}
 use Rattle.reader_rules.proofs.TreePred.{pred_truth, pred_not, pred_connected}
 use Rattle.reader_rules.proofs.TreeShape.{One, Two}

@@ -2,7 +2,7 @@
 use mathlib.Core.Path.{◌≡◌, sym, ap, subst, ◌∙◌}
 use mathlib.Core.Bool.{false}
 use mathlib.Core.List.{List, [], ◌∷◌}
-use Prim.Native.Nat.{ℕ, ◌+◌, ◌*◌, ◌-◌, ◌≤◌, ◌<◌, ◌^◌}
+use Prim.Native.Nat.{ℕ, ◌+◌, ◌*◌, ◌≤◌}
 use native.Mathlib.Omega.{arith}
 use lib.ListN.{length, get_or}
 use Rattle.reader_rules.specs.Decode.{expr_at, text_at, include_at}
@@ -32,7 +32,6 @@ use Rattle.checker_contracts.proofs.SchemaSets.{sset_save_asked, sset_include_as
 use Rattle.checker_closing.specs.Nodes.{Node, VisitAt}
 use Rattle.checker_closing.specs.declared.results.Visit.{Visit}
 use Rattle.checker_nodes.proofs.ExprNodes.{visit_done, node_word}
-use Rattle.types_cells.specs.Layout.{first_run, frozen_size, area_size, max_cells}
 
 -- COMPREHENSION: the Text at node t, the body at node b.
 pub record ComprNode (doc : List ℕ) (k t b : ℕ) : Type 0 where
@@ -174,11 +173,10 @@ module _ {doc s d w : List ℕ} {rows n top at free k : ℕ} (N : At doc express
     pub theta_asked : ThetaAsked s d w n top rows free stroke
     theta_asked = let x = (theta_words doc expressions k N q).1 in node_theta s d w rows n top at free theta_ask.height k stroke L (omega arith)
 
-    pub theta_end : {s₁ w₁ : List ℕ} {answer cell n₁ top₁ : ℕ} {r : Visit} → length s₁ ≡ length s → length w₁ ≡ length w → ThetaRuled s s₁ d w w₁ n top rows free id stroke answer cell n₁ top₁ →
-        VisitAt r answer k cell n₁ top₁ at → ExprDone s s₁ d w w₁ rows n top at free (expr_at doc k) r.number r.place r.cell r.cells r.top r.at
-    theta_end {s₁} {w₁} {answer} {cell} {n₁} {top₁} size same R A =
-        visit_done A
-        (rw theta_tree
+    pub theta_end : {s₁ w₁ : List ℕ} {answer cell n₁ top₁ : ℕ} → length s₁ ≡ length s → length w₁ ≡ length w → ThetaRuled s s₁ d w w₁ n top rows free id stroke answer cell n₁ top₁ →
+        ExprDone s s₁ d w w₁ rows n top at free (expr_at doc k) answer k cell n₁ top₁ at
+    theta_end {s₁} {w₁} {answer} {cell} {n₁} {top₁} size same R =
+        rw theta_tree
         (alone_done s d w rows n top at free (theta k id stroke) k _ (theta_alone k id stroke) theta_ask s₁ w₁ answer k cell n₁ top₁ at
         (theta_ending s s₁ d w rows n top at free k answer cell n₁ top₁ node_cells size (alone_low s d w rows n top at free (theta k id stroke) k _ (theta_alone k id stroke) theta_ask)
-        theta_ask.visiting.clean w₁ id stroke R same theta_asked.below theta_asked.above)))
+        theta_ask.visiting.clean w₁ id stroke R same theta_asked.below theta_asked.above))

@@ -19,7 +19,7 @@ use checker_closing::included::{brought, included};
 use checker_closing::includes::{FIRST_ACTUAL, named, schema_of};
 use checker_closing::relation::relation;
 use checker_closing::results::{
-    Lined, Verdict, Visit, found, lined_at, unlined, unvisited, verdict_at, visit_at,
+    Lined, Verdict, Visit, found, lined_at, ruled_at, unlined, unvisited, verdict_at, visit_at,
 };
 use checker_kinds::building::{
     comprehension_rule, integers_rule, number_rule, power_rule, product_rule, set_rule, tuple_rule,
@@ -117,7 +117,7 @@ fn refer(
         &parts,
         p.len() - 2,
     );
-    visit_at(r.number, k, r.cell, r.cells, r.top, x.at)
+    ruled_at(r, k, x.at)
 }
 
 // 33 Set, 34 Tuple, 35 Product.
@@ -147,14 +147,14 @@ fn group(
     let m = p.len() - 1;
     if q == kinds::SET {
         let r = set_rule(a, d, x.cells, x.top, &parts, m);
-        return visit_at(r.number, k, r.cell, r.cells, r.top, x.at);
+        return ruled_at(r, k, x.at);
     }
     if q == kinds::TUPLE {
         let r = tuple_rule(a, x.cells, x.top, &parts, m);
-        return visit_at(r.number, k, r.cell, r.cells, r.top, x.at);
+        return visit_at(0, k, r.cell, r.cells, r.top, x.at);
     }
     let r = product_rule(a, d, x.cells, x.top, &parts, m);
-    visit_at(r.number, k, r.cell, r.cells, r.top, x.at)
+    ruled_at(r, k, x.at)
 }
 
 // 36 Power.
@@ -180,7 +180,7 @@ fn power(
         return x;
     }
     let r = power_rule(a, d, x.cells, x.top, x.cell);
-    visit_at(r.number, k, r.cell, r.cells, r.top, x.at)
+    ruled_at(r, k, x.at)
 }
 
 // 38 Select.
@@ -206,7 +206,7 @@ fn select(
         return x;
     }
     let r = select_rule(a, d, x.cells, x.top, x.cell, word(p, 2));
-    visit_at(r.number, k, r.cell, r.cells, r.top, x.at)
+    ruled_at(r, k, x.at)
 }
 
 // 37 Apply.
@@ -236,7 +236,7 @@ fn apply(
         return y;
     }
     let r = apply_rule(a, d, y.cells, y.top, x.cell, y.cell);
-    visit_at(r.number, k, r.cell, r.cells, r.top, y.at)
+    ruled_at(r, k, y.at)
 }
 
 // 41 to 45: arithmetic.
@@ -266,7 +266,7 @@ fn arith(
         return y;
     }
     let r = arithmetic_rule(a, d, y.cells, y.top, x.cell, y.cell);
-    visit_at(r.number, k, r.cell, r.cells, r.top, y.at)
+    ruled_at(r, k, y.at)
 }
 
 // 46 Comprehension: the piece around waits in the work area while its Text is visited.
@@ -298,7 +298,7 @@ fn compr(
         return x;
     }
     let r = comprehension_rule(a, x.cells, x.top, x.cell);
-    visit_at(r.number, k, r.cell, r.cells, r.top, x.at)
+    visit_at(0, k, r.cell, r.cells, r.top, x.at)
 }
 
 // 40 SchemaSet: the piece around waits in the work area while its Include is visited.
@@ -352,11 +352,11 @@ pub fn expr(
         kinds::REF => refer(doc, a, d, w, rows, n, top, at, free, k, p),
         kinds::NUMBER => {
             let r = number_rule(a, n, top);
-            visit_at(r.number, k, r.cell, r.cells, r.top, at)
+            visit_at(0, k, r.cell, r.cells, r.top, at)
         }
         kinds::INTEGERS => {
             let r = integers_rule(a, n, top);
-            visit_at(r.number, k, r.cell, r.cells, r.top, at)
+            visit_at(0, k, r.cell, r.cells, r.top, at)
         }
         kinds::SET..=kinds::PRODUCT => group(doc, a, d, w, rows, n, top, at, free, k, p),
         kinds::POWER => power(doc, a, d, w, rows, n, top, at, free, k, p),
@@ -364,7 +364,7 @@ pub fn expr(
         kinds::SELECT => select(doc, a, d, w, rows, n, top, at, free, k, p),
         kinds::THETA => {
             let r = theta_rule(a, d, w, n, top, rows, free, word(p, 1), word(p, 2));
-            visit_at(r.number, k, r.cell, r.cells, r.top, at)
+            ruled_at(r, k, at)
         }
         kinds::SCHEMA_SET => sset(doc, a, d, w, rows, n, top, at, free, k, p),
         kinds::PLUS..=kinds::MOD => arith(doc, a, d, w, rows, n, top, at, free, k, p),
@@ -670,12 +670,13 @@ fn include(
     requires { Node doc.now p.now includes k × IncludeAsk a.old d.now w.old rows at free (include_at doc.now k) places.old }
     ensures { IncludeDone a.old a.new d.now w.old w.new rows at free (include_at doc.now k) places.old places.new result.number result.place result.count result.at }
 {
-    let s = schema_of(d, w, p);
-    if s.number != 0 {
-        return lined_at(s.number, k, 0, 0);
+    match schema_of(d, w, p) {
+        Ok(s) => {
+            let x = actuals(doc, a, d, w, rows, at, free, k, p, 0, word(p, 3), places);
+            named(a, d, w, free, k, p, s, x)
+        }
+        Err(number) => lined_at(number, k, 0, 0),
     }
-    let x = actuals(doc, a, d, w, rows, at, free, k, p, 0, word(p, 3), places);
-    named(a, d, w, free, k, p, s.at, x)
 }
 
 // The actuals of an Include from number j of q on: each is a closed piece, and a power. The places of their element types go to `places`.

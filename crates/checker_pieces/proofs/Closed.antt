@@ -10,26 +10,20 @@ use Rattle.types_rules.specs.Types.{size}
 use Rattle.checker_rules.specs.Items.{piece, Passes, Refuses, MeetsIn}
 use Rattle.types_cells.specs.Store.{frozen}
 use Rattle.types_cells.specs.Calls.{Above}
-use Rattle.types_solver.specs.Sizes.{mark_at, Read, TestedFinite, Measuring, Measured}
+use Rattle.types_solver.specs.Sizes.{mark_at, TestedFinite, Measured}
 use Rattle.types_solver.specs.Answers.{Finite, Left}
-use Rattle.types_solver.specs.Written.{Writing, Typed}
+use Rattle.types_solver.specs.Written.{Writing}
 use Rattle.types_solver.proofs.Accepted.{model, least}
 use Rattle.types_cells.proofs.Growing.{lt_or_ge}
 use Rattle.types_solver.proofs.Marking.{cap_low}
 use Rattle.types_solver.proofs.Sizing.{high}
 use Rattle.checker_pieces.specs.Piece.{Piece}
 use Rattle.checker_pieces.specs.Stage.{Ghost, Stands}
-use Rattle.checker_pieces.specs.Closed.{Closing, Shut, Closed, Sizing, SizeIs, Wording, WordsAre}
+use Rattle.checker_pieces.specs.Closed.{Shut, Closed, SizeIs, Wording}
 use Rattle.checker_pieces.proofs.ClosingLaws.{tested, tested_true, finite_after, to_tested, closed_goes, closed_stops, closed_extends, closed_steady, closed_type}
 use Rattle.checker_pieces.proofs.Lengths.{words_few}
 
-pub closing_read : (s d : List ℕ) (n : ℕ) → Closing s d n → Read s n
-closing_read s d n C = let Q = C.ready.stands.piece in record { L = Q.L; held = Q.solved.held }
-
 module _ (s u d : List ℕ) (n : ℕ) (b : Bool) (T : TestedFinite s u n b) where
-  pub tested_read : Closing s d n → Read u n
-  tested_read C = let Q = C.ready.stands.piece in record { L = Q.L; held = (T.grown _ Q.L Q.solved).held }
-
   module _ (top : ℕ) (G : Ghost) (S : Stands s d n top G) where
     abbrev after : Piece u d n G.equations G.before G.items G.known G.mentioned G.cells
     after = tested s u d n b T G.equations G.before G.items G.known G.mentioned G.cells S.piece
@@ -82,9 +76,6 @@ module _ (s u d : List ℕ) (n : ℕ) (b : Bool) (T : TestedFinite s u n b) wher
 
 -- Sizes and words of a closed piece.
 module _ (s d : List ℕ) (n c : ℕ) where
-  pub may_measure : Sizing s d n c → Measuring s d c
-  may_measure A = let S = A.shut in record { n = n; L = S.links; marked = S.model.marked; pinned = S.model.pinned; made = A.made; few = S.few }
-
   pub size_is : (v : ℕ) → c < n → Measured s d c v → SizeIs s d n c v
   size_is v l K G S = K.is n S.links S.type S.model (least s n S.links S.model.marked.held S.resolved S.type) l
 
@@ -106,6 +97,3 @@ module _ (s d : List ℕ) (n c : ℕ) where
             (lt_or_ge (mark_at s c) 33);
         room = let w = words_few (S.type c) in let p = A.place in omega arith;
       }
-
-  pub words_are : (out out' : List ℕ) (at e : ℕ) → c < n → Typed s d out out' at c e → WordsAre s d out out' n c at e
-  words_are out out' at e l W G S = W n S.links S.type S.model S.resolved l

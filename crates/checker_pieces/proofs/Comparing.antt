@@ -2,16 +2,11 @@
 use mathlib.Core.Path.{subst}
 use mathlib.Core.List.{List}
 use Prim.Native.Nat.{ℕ}
-use Rattle.types_solver.specs.Equation.{Equating, Equation}
+use Rattle.types_solver.specs.Equation.{Equation}
 use Rattle.checker_pieces.specs.Stage.{Comparing, Equated}
 use Rattle.checker_pieces.proofs.Equating.{equated, equated_goes, equated_later, stop}
 
 module _ (s d : List ℕ) (n : ℕ) (l : List ℕ) (y k : ℕ) (C : Comparing s d n l y k) where
-  pub equating : Equating s d n l y k
-  equating =
-      let S = C.ready.stands in
-      record { P₀ = C.ready.ghost.equations; L = S.piece.L; solved = S.piece.solved; pinned = S.piece.pinned; few = S.few; made = C.made; step = C.step }
-
   pub answered : (s' : List ℕ) (number : ℕ) → Equation s s' d n l y k number → Equated s s' d n l y k number
   answered s' number M = record {
     low = M.low;

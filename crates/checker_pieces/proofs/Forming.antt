@@ -132,9 +132,6 @@ module _ (s : List ℕ) (n top c : ℕ) (B : Building s n top 1 (c ∷ [])) wher
   at₀ : top ≡ top + length {A = ℕ} []
   at₀ = omega arith
 
-  pub power_ask : Adding s n top
-  power_ask = laid_ask s s n top [] B.P₀ B.L B.solved K₀ top at₀ (let r = B.room.words in omega arith)
-
   module _ (s₁ : List ℕ) (N : Added s s₁ n top c) where
     K₁ : Laid s s₁ n top (c ∷ [])
     K₁ = laid_more s s n top [] B.P₀ B.L B.solved K₀ top at₀ (let r = B.room.words in omega arith) s₁ c N
@@ -156,15 +153,9 @@ module _ (s : List ℕ) (n top x y : ℕ) (B : Building s n top 2 (x ∷ y ∷ [
   start : Laid s s n top []
   start = laid_none s n top B.above
 
-  pub pair_first : Adding s n top
-  pair_first = laid_ask s s n top [] B.P₀ B.L B.solved start top (omega arith) (let r = B.room.words in omega arith)
-
   module _ (s₁ : List ℕ) (N₁ : Added s s₁ n top x) where
     one : Laid s s₁ n top (x ∷ [])
     one = laid_more s s n top [] B.P₀ B.L B.solved start top (omega arith) (let r = B.room.words in omega arith) s₁ x N₁
-
-    pub pair_second : Adding s₁ n (top + 1)
-    pair_second = laid_ask s s₁ n top (x ∷ []) B.P₀ B.L B.solved one (top + 1) (omega arith) (let r = B.room.words in omega arith)
 
     module _ (s₂ : List ℕ) (N₂ : Added s₁ s₂ n (top + 1) y) where
       two : Laid s s₂ n top (x ∷ y ∷ [])
@@ -196,9 +187,6 @@ module _ (s : List ℕ) (n top m : ℕ) (ps : List ℕ) (P : (m ≤ 6) × (m ≤
         let h = P.1 in
         subst (Laid s s₂ n top) (sym (take-suc ps j 0 (omega arith)) ∙ ap (λ z. take z ps) (let z : suc j ≡ j + 1 = omega arith in z))
         (laid_more s s₁ n top (take j ps) P.2.P₀ P.2.L P.2.solved K (top + j) at_j room_j s₂ (get_or ps j 0) N)
-
-  pub laid_size : (s₁ : List ℕ) (j : ℕ) → Laid s s₁ n top (take j ps) → length s₁ ≡ length s
-  laid_size s₁ j K = (solved₁ s s₁ n top (take j ps) P.2.P₀ P.2.L P.2.solved K).held.size ∙ sym P.2.solved.held.size
 
   module _ (s₁ : List ℕ) (K : Laid s s₁ n top (take m ps)) where
     count : m ≡ length (take m ps)

@@ -18,3 +18,4 @@ pub mod PowerLaws
 pub mod RowLaws
 pub mod FreshRows
 pub mod PowerRows
+pub mod AnsweringLaws

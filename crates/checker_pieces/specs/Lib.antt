@@ -3,3 +3,4 @@ pub mod Stage
 pub mod Closed
 pub mod Building
 pub mod Rows
+pub mod Answering

@@ -48,10 +48,8 @@ fn lay(a: &mut [u32], n: usize, top: usize, parts: &[u32], m: usize)
     requires { (m ≤ 6) × (m ≤ length parts.now) × Building a.old n top 4 (take m parts.now) }
     ensures { Laid a.old a.new n top (take m parts.now) }
 {
-    let mut j = 0;
-    while j < m {
-        types_cells::growth::add_word(a, n, top + j, parts[j]);
-        j += 1;
+    for (j, part) in parts[..m].iter().enumerate() {
+        types_cells::growth::add_word(a, n, top + j, *part);
     }
 }
 

@@ -10,10 +10,8 @@ pub fn fresh_row(a: &mut [u32], n: usize, m: usize)
     requires { RowAsked a.old n m }
     ensures { RowMade a.old a.new n m }
 {
-    let mut j = 0;
-    while j < m {
+    for j in 0..m {
         types_cells::growth::new_unknown(a, n + j);
-        j += 1;
     }
 }
 
@@ -22,9 +20,7 @@ pub fn power_row(a: &mut [u32], n: usize, top: usize, first: usize, m: usize)
     requires { PowersAsked a.old n top first m }
     ensures { PowersMade a.old a.new n top first m (n + m) (top + m) }
 {
-    let mut j = 0;
-    while j < m {
+    for j in 0..m {
         formers::power(a, n + j, top + j, first + j);
-        j += 1;
     }
 }

@@ -1,4 +1,5 @@
 -- THE CHECK IS RIGHT: its answer is the one that the rules give, and no other; one type and no other through an accepted document.
+use Rattle.std.specs.Prelude.{Err}
 use mathlib.Core.Path.{◌≡◌, refl, ap, ap₂, sym, ◌∙◌, subst}
 use mathlib.Core.Bool.{Bool, true, false, cond}
 use mathlib.Core.List.{List, [], ◌∷◌}
@@ -22,8 +23,7 @@ use Rattle.checker_rules.specs.Verdicts.{Accepts, RefusesAt, AnswersFrom, Answer
 use Rattle.checker_rules.proofs.ItemLaws.{not_both, one}
 use Rattle.checker_rules.proofs.SolvingRight.{Verdict, solve_right}
 use Rattle.checker_rules.proofs.OneType.{one_type, extend_same}
-use Rattle.reader_rules.specs.declared.Reading.{Reading}
-use Rattle.reader_rules.specs.declared.Reading.TheVariants.{Readable, Refused}
+use Rattle.reader_rules.specs.Refusals.{Finding, Readable, Refused}
 
 -- P: the valuations that count. I: what paragraphs, over the dictionary before them, must have for the solver to be right about P.
 module _ (P : Typings) (I : List Paragraph → Dictionary → Type 0)
@@ -122,9 +122,9 @@ module _ (P : Typings) (I : List Paragraph → Dictionary → Type 0)
       rest : Answer
       rest = cond (ltb w check_work_words) (refused 21 0) (cond (eqb d 0) (refused 22 0) (check_paragraphs (paragraphs_of (tree_of doc)) blank d))
 
-      given_right : (r : Reading) → read_of doc ≡ r → Answers P doc d w (after_reading r rest)
+      given_right : (r : Finding) → read_of doc ≡ r → Answers P doc d w (after_reading r rest)
       given_right Readable e = inr (e, tree_right (tree_of doc) d w (i e))
-      given_right (Refused f m) e = inl (f, m, e, refl)
+      given_right (Err err) e = inl (err.number, err.place, e, refl)
 
       only : Answers P doc d w a → after_reading (read_of doc) rest ≡ a
       only (inl h) = ap (λ r. after_reading r rest) h.2 ∙ sym h.3

@@ -1,4 +1,5 @@
 -- Every type of an accepted document's dictionary is well formed, so that its type words can be read back.
+use Rattle.std.specs.Prelude.{Err}
 use mathlib.Core.Path.{◌≡◌, refl}
 use mathlib.Core.Bool.{Bool, true, false, cond}
 use mathlib.Core.List.{List, [], ◌∷◌}
@@ -32,8 +33,7 @@ use Rattle.checker_rules.proofs.FormedScopes.{FormedScope, text_formed, schema_f
 use Rattle.reader_rules.proofs.Sized.{SizedParagraphs}
 use Rattle.checker_rules.proofs.SizedTree.{tree_sized}
 use Rattle.checker_rules.proofs.FormedItems.{FormedItems, formed_paragraph}
-use Rattle.reader_rules.specs.declared.Reading.{Reading}
-use Rattle.reader_rules.specs.declared.Reading.TheVariants.{Readable, Refused}
+use Rattle.reader_rules.specs.Refusals.{Finding, Readable, Refused}
 
 -- The solver keeps well-formed substitutions.
 abbrev pub FormedSolved : Solved → Type 0
@@ -146,7 +146,7 @@ check_formed doc d w = read (read_of doc) refl
     settled r false true = tt
     settled r false false = paragraphs_formed (paragraphs_of (tree_of doc)) blank d (tree_sized doc r) (unfold FormedDictionary in tt)
 
-    read : (r : Reading) → read_of doc ≡ r
+    read : (r : Finding) → read_of doc ≡ r
         → FormedAnswer (after_reading r (cond (ltb w check_work_words) (refused 21 0) (cond (eqb d 0) (refused 22 0) (check_paragraphs (paragraphs_of (tree_of doc)) blank d))))
     read Readable r = settled r (ltb w check_work_words) (eqb d 0)
-    read (Refused f m) r = tt
+    read (Err err) r = tt

@@ -25,7 +25,7 @@ use Rattle.checker_rules.proofs.SizedTree.{tree_sized}
 use Rattle.checker_rules.proofs.FormedItems.{formed_paragraph}
 use Rattle.checker_rules.proofs.FormedCheck.{extend_formed}
 use Rattle.checker_rules.proofs.FormedSolutions.{right_formed}
-use Rattle.reader_rules.specs.declared.Reading.TheVariants.{Readable}
+use Rattle.reader_rules.specs.Refusals.{Readable}
 
 -- What makes the solver right about well-formed valuations.
 abbrev Keeping : List Paragraph → Dictionary → Type 0

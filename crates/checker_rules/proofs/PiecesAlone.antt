@@ -42,7 +42,7 @@ use Rattle.checker_rules.proofs.RuleUnknowns.{smalls_over, new_names_over, expr_
 use Rattle.checker_rules.proofs.NewUnknowns.{EachOnce, once_left, once_right, has_left, has_right, apart, turned, declaration_over, inclusion_over}
 use Rattle.checker_rules.proofs.SelectFindings.{extend_few}
 use Rattle.checker_rules.proofs.TypingLaws.{first_has}
-use Rattle.reader_rules.specs.declared.Reading.TheVariants.{Readable}
+use Rattle.reader_rules.specs.Refusals.{Readable}
 use Rattle.checker_rules.proofs.ItemForms.{declared_new, names_new, small_few, smalls_few, names_few, new_names_bare, smalls_bare}
 use Rattle.checker_rules.proofs.PieceContexts.{ReadyContext, With, own_all, sig_map, ready_left, ready_right, ready_and, ready_with, ready_after, ready_inside, pair_separate, power_piece, expr_piece, relation_piece, NewRow, WithOne, mentions, ready_one, row_after, all_map, rule_separate}
 

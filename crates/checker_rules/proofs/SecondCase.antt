@@ -19,7 +19,7 @@ use Rattle.checker_rules.specs.Globals.{Way, written, included, Declares, Histor
 use Rattle.checker_rules.specs.Check.{paragraphs_of}
 use Rattle.checker_rules.proofs.GlobalNames.{or_side, global_from, global_to}
 use Rattle.checker_rules.proofs.WrittenOnce.{written_once}
-use Rattle.reader_rules.specs.declared.Reading.TheVariants.{Readable}
+use Rattle.reader_rules.specs.Refusals.{Readable}
 
 -- i, which is made global here in the way w, is global by an earlier paragraph too, an Axiom's Include bringing at least one of the two
 abbrev pub TwiceGlobal : History → ℕ → Way → Type 0

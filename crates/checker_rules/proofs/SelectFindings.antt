@@ -30,7 +30,7 @@ use Rattle.checker_rules.proofs.SizedTree.{tree_sized}
 use Rattle.checker_rules.proofs.ScopeUnknowns.{FewRecorded, longer, ScopeOver, parameters_over, lines_inside, inside_over}
 use Rattle.checker_rules.proofs.RuleUnknowns.{type_over, expr_over, pred_over, text_over, lines_over, schema_over}
 use Rattle.checker_rules.proofs.TypingLaws.{first_has}
-use Rattle.reader_rules.specs.declared.Reading.TheVariants.{Readable}
+use Rattle.reader_rules.specs.Refusals.{Readable}
 use Rattle.checker_rules.proofs.ItemForms.{bare_selects, node_selects, refuse_if_bare, new_names_bare, smalls_bare, declared_new, names_new, small_few, smalls_few, names_few, powers_node, members_node, reference_node, theta_node}
 use Rattle.checker_rules.proofs.NewUnknowns.{Not, select_open, EachOnce, once_left, once_right, has_right, apart, turned, own_not, New, new_left, new_right, new_after, new_inside, Some, some_after, free_fresh, some_fresh, NewSig, new_with, new_declaration, sig_declaration, new_inclusion, sig_inclusion, other_own, actual_over}
 

@@ -16,7 +16,7 @@ use Rattle.reader_rules.specs.Kinds.{cell, sort_in, is_node_sort, between, texts
 use Rattle.reader_rules.specs.Nodes.{kind_at, operand_at, children, parent}
 use Rattle.reader_rules.specs.Repeats.{fresh, is_axiom_decl, globals as globalsAt, repeats, repeat_number}
 use Rattle.reader_rules.specs.Reading.{read_of}
-use Rattle.reader_rules.specs.declared.Reading.TheVariants.{Readable}
+use Rattle.reader_rules.specs.Refusals.{Readable}
 use Rattle.reader_rules.specs.Promise.{At, Lower}
 use Rattle.reader_rules.specs.Tree.{Expr, Pred, Lines, end, declaration, inclusion, Text, text, Include, Schema, Paragraph, given, axiomatic, schema}
 use Rattle.reader_rules.specs.Tree.{abbreviation, constraint, Document as Tree, document}

@@ -3,8 +3,7 @@
 use Rattle.std.specs.Prelude.{◌≡◌, List, ◌++◌, ℕ, ◌-◌, replicate}
 use Rattle.checker_rules.specs.Dictionary.{dictionary_words, dictionary_length}
 use Rattle.checker_rules.specs.Check.{Answer, accepted, refused, check_of}
-use Rattle.checker_rules.specs.declared.Finding.{Finding}
-use Rattle.checker_rules.specs.declared.Finding.TheVariants.{Accepted, Refused}
+use Rattle.reader_rules.specs.Refusals.{Finding, Accepted, Refused}
 
 unfoldable pub answer_finding : Answer → Finding
 answer_finding (accepted D) = Accepted

@@ -1,5 +1,5 @@
 -- The check: its answer as a function of the document's words and of the lengths of the two areas (document 01, "Finding numbers"; R8).
-use Rattle.std.specs.Prelude.{Bool, true, false, cond, List, [], ◌∷◌, ℕ, leb, ltb, eqb}
+use Rattle.std.specs.Prelude.{Bool, true, false, cond, List, [], ◌∷◌, ℕ, leb, ltb, eqb, Err}
 use Rattle.reader_rules.specs.Reading.{read_of}
 use Rattle.reader_rules.specs.Tree.{Paragraph, Document, document, paragraph_node}
 use Rattle.reader_rules.specs.Decode.{tree_of}
@@ -7,8 +7,7 @@ use Rattle.checker_rules.specs.Dictionary.{Dictionary, blank, dictionary_length}
 use Rattle.checker_rules.specs.Rules.{paragraph_items}
 use Rattle.checker_rules.specs.Entries.{extend}
 use Rattle.checker_rules.specs.Solving.{Solved, pass, refuse, solve, valuation_of}
-use Rattle.reader_rules.specs.declared.Reading.{Reading}
-use Rattle.reader_rules.specs.declared.Reading.TheVariants.{Readable, Refused}
+use Rattle.reader_rules.specs.Refusals.{Finding, Readable, Refused}
 
 -- accepted with a dictionary, or refused with a finding and its place
 pub data Answer : Type 0 where
@@ -34,9 +33,9 @@ unfoldable pub paragraphs_of : Document → List Paragraph
 paragraphs_of (document n ps) = ps
 
 -- reading's finding where there is one
-unfoldable pub after_reading : Reading → Answer → Answer
+unfoldable pub after_reading : Finding → Answer → Answer
 after_reading Readable a = a
-after_reading (Refused f m) a = refused f m
+after_reading (Err err) a = refused err.number err.place
 
 abbrev pub check_work_words : ℕ
 check_work_words = 16384

@@ -11,7 +11,7 @@ use Rattle.checker_rules.specs.Rules.{paragraph_items}
 use Rattle.checker_rules.specs.Entries.{extend}
 use Rattle.checker_rules.specs.ExpressionNodes.{InParagraph}
 use Rattle.checker_rules.specs.Check.{Answer, accepted, refused, paragraphs_of}
-use Rattle.reader_rules.specs.declared.Reading.TheVariants.{Readable, Refused}
+use Rattle.reader_rules.specs.Refusals.{Readable, Refused}
 
 -- P: the valuations that count as solutions. `Any`: all of them. `FormedTypings`: those of well-formed types alone, which gives every document's words the
 -- same answer (proofs/FormedVerdicts).

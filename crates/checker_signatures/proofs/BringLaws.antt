@@ -5,6 +5,7 @@ use mathlib.Core.List.{List}
 use Prim.Native.Nat.{ℕ, ◌+◌, ◌*◌, ◌≤◌, ◌<◌}
 use lib.Dec.{ltb}
 use lib.ListN.{length, get_or}
+use borrow.Author.Tests.{lt-ltb, le-ltb}
 use lib.Seq.{sets}
 use Rattle.checker_signatures.specs.Rows.{rows, flat, stroked_rows, stroke_rows, rename_rows, wrong_old_rows, wrong_rows}
 use Rattle.checker_signatures.specs.Tables.{Table, Brings}
@@ -34,7 +35,7 @@ module _ (w : List ℕ) (s m base k : ℕ) (ps : List (ℕ × ℕ)) where
     pub brings_old : (n : ℕ) → wrong_old_rows ps (rows v s m) ≡ true → Brings w v s m base k ps true n
     brings_old n e = refused v n (wrong_old_lem k ps (rows w s m) free (ap (wrong_old_rows ps) (sym stroke_rows_lem) ∙ e)) below
 
-    pub brings : (u : List ℕ) (n : ℕ) → wrong_old_rows ps (rows v s m) ≡ false → Table v u base (rename_rows ps (rows v s m)) n
+    brings : (u : List ℕ) (n : ℕ) → wrong_old_rows ps (rows v s m) ≡ false → Table v u base (rename_rows ps (rows v s m)) n
         → Brings w u s m base k ps (ltb n m) n
     brings u n e t =
         let rs = rows w s m in
@@ -47,3 +48,9 @@ module _ (w : List ℕ) (s m base k : ℕ) (ps : List (ℕ × ℕ)) where
               (subst (λ (l : List (ℕ × ℕ)). Table v u base l n) z t);
           below = λ i p q. ap (λ (x : List ℕ). get_or x i 0) t.words ∙ get_d_below (flat (rename_rows ps (rows v s m))) v base i q ∙ below i p q;
         }
+
+    pub brings_fewer : (u : List ℕ) (n : ℕ) → wrong_old_rows ps (rows v s m) ≡ false → Table v u base (rename_rows ps (rows v s m)) n → n < m → Brings w u s m base k ps true 0
+    brings_fewer u n e t l = let B = brings u n e t in refused u 0 (sym B.finding ∙ lt-ltb n m l) B.below
+
+    pub brings_all : (u : List ℕ) (n : ℕ) → wrong_old_rows ps (rows v s m) ≡ false → Table v u base (rename_rows ps (rows v s m)) n → m ≤ n → Brings w u s m base k ps false n
+    brings_all u n e t l = subst (λ b. Brings w u s m base k ps b n) (le-ltb n m l) (brings u n e t)

@@ -1,15 +1,17 @@
 -- The loops over strokes and rename pairs, one turn at a time, and finding 37 put together.
 use mathlib.Core.Path.{◌≡◌, refl, sym, ap, ◌∙◌}
 use mathlib.Core.Bool.{Bool, true, false, cond, ◌||◌, not, false≢true}
-use mathlib.Core.List.{List, [], ◌∷◌}
+use mathlib.Core.List.{List, [], ◌∷◌, ◌++◌}
 use mathlib.Core.Option.{Option, some, none as nothing}
-use Prim.Native.Nat.{ℕ, suc, ◌+◌, ◌-◌, ◌*◌, ◌%◌, ◌≤◌, ◌<◌, ◌^◌}
+use Prim.Native.Nat.{ℕ, zero, suc, ◌+◌, ◌-◌, ◌*◌, ◌/◌, ◌%◌, ◌≤◌, ◌<◌, ◌^◌}
 use native.Mathlib.Omega.{arith}
 use lib.Dec.{ltb, eqb}
-use lib.ListN.{length, get_or}
+use lib.ListN.{length, get_or, drop}
+use Rattle.std.proofs.Common.{length-drop, get_or-drop}
 use lib.Seq.{sets}
 use borrow.Author.Tests.{eq-eqb, ne_eqb, eqb-true}
 use Rattle.reader_rules.specs.Identifiers.{stroke_of}
+use Rattle.reader_rules.specs.Decode.{pairs_from}
 use Rattle.reader_rules.proofs.TreeLists.{pairs_go, pairs_end}
 use Rattle.checker_rules.specs.Strokes.{decorate, takes}
 use Rattle.checker_rules.specs.Signatures.{renamed, has_old}
@@ -102,39 +104,61 @@ unfolding stroke_rows
 stroke_length k [] = refl
 stroke_length k (r ∷ rs) = ap suc (stroke_length k rs)
 
--- the pairs from word i on
-module _ (w : List ℕ) (i x : ℕ) where
-  pub renamed_hit : 1 < length w - i → get_or w i 0 ≡ x → renamed (renames w i) x ≡ get_or w (i + 1) 0
+-- the pairs from word i on are those of the words from there on
+pairs_dropped : (n i j : ℕ) (w : List ℕ) → pairs_from (drop i w) j n ≡ pairs_from w (i + j) n
+unfolding pairs_from
+pairs_dropped zero i j w = refl
+pairs_dropped (suc n) i j w =
+    let e : i + suc j ≡ suc (i + j) = omega arith in
+    let f : i + suc (suc j) ≡ suc (suc (i + j)) = omega arith in
+    rw (pairs_dropped n i (suc (suc j)) w, get_or-drop, get_or-drop, e, f)
+
+pub renames_dropped : (i : ℕ) (w : List ℕ) → renames w i ≡ renames (drop i w) 0
+renames_dropped i w =
+    let l = length-drop i w in
+    let m : (length w - i) / 2 ≡ (length (drop i w) - 0) / 2 = omega arith in
+    let z : i ≡ i + 0 = omega arith in
+    ap (λ (n : ℕ). pairs_from w i n) m ∙ ap (λ (k : ℕ). pairs_from w k ((length (drop i w) - 0) / 2)) z ∙ sym (pairs_dropped ((length (drop i w) - 0) / 2) i 0 w)
+
+-- a pair x of words and those after it, and fewer words than two
+pub renames_pair : (s x t : List ℕ) → s ≡ x ++ t → length x ≡ 2 → renames s 0 ≡ (get_or x 0 0, get_or x 1 0) ∷ renames t 0
+renames_pair s (a ∷ (b ∷ [])) t e l =
+    let n = ap length e in
+    ap (λ (v : List ℕ). renames v 0) e
+    ∙ pairs_go (a ∷ (b ∷ t)) (length (a ∷ (b ∷ t))) 0 (omega arith)
+    ∙ ap (λ (ps : List (ℕ × ℕ)). (a, b) ∷ ps) (renames_dropped 2 (a ∷ (b ∷ t)))
+renames_pair s [] t e l = absurd (omega arith)
+renames_pair s (a ∷ []) t e l = absurd (omega arith)
+renames_pair s (a ∷ (b ∷ (c ∷ x))) t e l = absurd (omega arith)
+
+pub renames_none : (s : List ℕ) → length s < 2 → renames s 0 ≡ []
+renames_none s h = pairs_end s (length s) 0 (omega arith)
+
+-- the first of the pairs ps is p, or there is none
+module _ (x : ℕ) (ps qs : List (ℕ × ℕ)) (a b : ℕ) (first : ps ≡ (a, b) ∷ qs) where
+  pub renamed_hit : a ≡ x → renamed ps x ≡ b
   unfolding renamed
-  renamed_hit h e =
-      let t : eqb x (get_or w i 0) ≡ true = eq-eqb x (get_or w i 0) (sym e) in
-      ap (λ (ps : List (ℕ × ℕ)). renamed ps x) (pairs_go w (length w) i (omega arith)) ∙ rw t
+  renamed_hit e = let t : eqb x a ≡ true = eq-eqb x a (sym e) in ap (λ (rs : List (ℕ × ℕ)). renamed rs x) first ∙ rw t
 
-  pub renamed_go : 1 < length w - i → (get_or w i 0 ≡ x → ⊥) → renamed (renames w i) x ≡ renamed (renames w (i + 2)) x
+  pub renamed_go : (a ≡ x → ⊥) → renamed ps x ≡ renamed qs x
   unfolding renamed
-  renamed_go h e =
-      let t : eqb x (get_or w i 0) ≡ false = ne_eqb x (get_or w i 0) (λ q. e (sym q)) in
-      ap (λ (ps : List (ℕ × ℕ)). renamed ps x) (pairs_go w (length w) i (omega arith)) ∙ rw t
+  renamed_go e = let t : eqb x a ≡ false = ne_eqb x a (λ q. e (sym q)) in ap (λ (rs : List (ℕ × ℕ)). renamed rs x) first ∙ rw t
 
-  pub renamed_end : length w - i ≤ 1 → renamed (renames w i) x ≡ x
-  unfolding renamed
-  renamed_end h = ap (λ (ps : List (ℕ × ℕ)). renamed ps x) (pairs_end w (length w) i (omega arith))
-
-  pub old_hit : 1 < length w - i → get_or w i 0 ≡ x → has_old x (renames w i) ≡ true
+  pub old_hit : a ≡ x → has_old x ps ≡ true
   unfolding has_old
-  old_hit h e =
-      let t : eqb x (get_or w i 0) ≡ true = eq-eqb x (get_or w i 0) (sym e) in
-      ap (has_old x) (pairs_go w (length w) i (omega arith)) ∙ rw t
+  old_hit e = let t : eqb x a ≡ true = eq-eqb x a (sym e) in ap (has_old x) first ∙ rw t
 
-  pub old_go : 1 < length w - i → (get_or w i 0 ≡ x → ⊥) → has_old x (renames w i) ≡ has_old x (renames w (i + 2))
+  pub old_go : (a ≡ x → ⊥) → has_old x ps ≡ has_old x qs
   unfolding has_old
-  old_go h e =
-      let t : eqb x (get_or w i 0) ≡ false = ne_eqb x (get_or w i 0) (λ q. e (sym q)) in
-      ap (has_old x) (pairs_go w (length w) i (omega arith)) ∙ rw t
+  old_go e = let t : eqb x a ≡ false = ne_eqb x a (λ q. e (sym q)) in ap (has_old x) first ∙ rw t
 
-  pub old_end : length w - i ≤ 1 → has_old x (renames w i) ≡ false
-  unfolding has_old
-  old_end h = ap (has_old x) (pairs_end w (length w) i (omega arith))
+pub renamed_end : (x : ℕ) (ps : List (ℕ × ℕ)) → ps ≡ [] → renamed ps x ≡ x
+unfolding renamed
+renamed_end x ps e = ap (λ (rs : List (ℕ × ℕ)). renamed rs x) e
+
+pub old_end : (x : ℕ) (ps : List (ℕ × ℕ)) → ps ≡ [] → has_old x ps ≡ false
+unfolding has_old
+old_end x ps e = ap (has_old x) e
 
 -- a row is there where its place is found
 unfoldable found : Option ℕ → Bool

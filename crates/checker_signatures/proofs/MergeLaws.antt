@@ -60,6 +60,3 @@ module _ (ps : List (ℕ × ℕ)) (w : List ℕ) (s m : ℕ) where
   rename_go j h l x y e f =
       let g : j - 1 + 1 ≡ j = omega arith in
       rename_at (j - 1) (omega arith) x y e f ∙ ap (λ (n : ℕ). insert_row x y (rename_rows ps (rows w (s + 2 * n) (m - n)))) g
-
-  pub rename_end : rename_rows ps (rows w (s + 2 * 0) (m - 0)) ≡ rename_rows ps (rows w s m)
-  rename_end = ap (rename_rows ps) (sym (rows_all w s m))

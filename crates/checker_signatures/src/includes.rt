@@ -1,5 +1,5 @@
 // What an Include makes of a signature's rows: the stroke on each identifier, all pairs renamed at once, and finding 37.
-ghost use Rattle.std.specs.Prelude.{◌≡◌, false, ◌+◌, ◌*◌, ◌≤◌, ◌<◌, ◌^◌, length};
+ghost use Rattle.std.specs.Prelude.{◌≡◌, true, false, MatchOption, ◌+◌, ◌*◌, ◌≤◌, ◌<◌, ◌^◌, length};
 ghost use Rattle.std.proofs.lemmas.List.Edits.{sets};
 ghost use Rattle.checker_rules.specs.Strokes.{takes};
 ghost use Rattle.checker_rules.specs.Signatures.{renamed, has_old};
@@ -25,12 +25,10 @@ pub fn some_stroked(work: &[u32], base: usize, m: usize, k: usize) -> bool
     requires { base + 2 * m ≤ length work.now }
     ensures { result ≡ stroked_rows k (rows work.now base m) }
 {
-    let mut j = 0;
-    while j < m {
+    for j in 0..m {
         if !takes(k, word(work, base + 2 * j)) {
             return true;
         }
-        j += 1;
     }
     false
 }
@@ -40,13 +38,11 @@ pub fn stroke(work: &mut [u32], base: usize, m: usize, k: usize)
     requires { (base + 2 * m ≤ length work.old) × (k < 4) × (stroked_rows k (rows work.old base m) ≡ false) }
     ensures { work.new ≡ sets work.old base (flat (stroke_rows k (rows work.old base m))) }
 {
-    let mut j = 0;
-    while j < m {
+    for j in 0..m {
         let at = base + 2 * j;
         let id = word(work, at);
         let place = word(work, at + 1);
         put_row(work, at, id + k, place);
-        j += 1;
     }
 }
 
@@ -55,13 +51,10 @@ fn renamed(part: &[u32], first: usize, id: usize) -> usize
     requires { (first ≤ length part.now) × (id < 2 ^ 32) }
     ensures { (result ≡ renamed (renames part.now first) id) × (result < 2 ^ 32) }
 {
-    let e = part.len();
-    let mut i = first;
-    while 1 < e - i {
-        if word(part, i) == id {
-            return word(part, i + 1);
+    for pair in part[first..].chunks_exact(2) {
+        if word(pair, 0) == id {
+            return word(pair, 1);
         }
-        i += 2;
     }
     id
 }
@@ -79,9 +72,7 @@ pub fn rename(
     ensures { Table work.old work.new base (rename_rows (renames part.now first) (rows work.old source m)) result }
 {
     let mut n = 0;
-    let mut j = m;
-    while 0 < j {
-        j -= 1;
+    for j in (0..m).rev() {
         let at = source + 2 * j;
         let old = word(work, at);
         let place = word(work, at + 1);
@@ -96,13 +87,10 @@ fn has_old(part: &[u32], i: usize, id: usize) -> bool
     requires { i ≤ length part.now }
     ensures { result ≡ has_old id (renames part.now i) }
 {
-    let e = part.len();
-    let mut p = i;
-    while 1 < e - p {
-        if word(part, p) == id {
+    for pair in part[i..].chunks_exact(2) {
+        if word(pair, 0) == id {
             return true;
         }
-        p += 2;
     }
     false
 }
@@ -112,29 +100,21 @@ pub fn wrong_old(work: &[u32], base: usize, m: usize, part: &[u32], first: usize
     requires { (base + 2 * m ≤ length work.now) × (first ≤ length part.now) }
     ensures { result ≡ wrong_old_rows (renames part.now first) (rows work.now base m) }
 {
-    let e = part.len();
-    let mut i = first;
-    while 1 < e - i {
+    for j in 0..(part.len() - first) / 2 {
+        let i = first + 2 * j;
         let old = word(part, i);
         if find(work, base, m, old) == m {
             return true;
         }
-        i += 2;
-        if has_old(part, i, old) {
+        if has_old(part, i + 2, old) {
             return true;
         }
     }
     false
 }
 
-// Whether the names are wrong, 37, and otherwise the number of rows that the Include brings.
-#[derive(Clone, Copy)]
-pub struct Brought {
-    pub wrong: bool,
-    pub count: usize,
-}
-
-// The m rows at `source` with the stroke k, and renamed by the pairs of the part as a table at base.
+// The m rows at `source` with the stroke k, and renamed by the pairs of the part as a table at base: the number of its rows. None where the names
+// are wrong, 37.
 pub fn bring(
     work: &mut [u32],
     source: usize,
@@ -143,26 +123,17 @@ pub fn bring(
     k: usize,
     part: &[u32],
     first: usize,
-) -> Brought
+) -> Option<usize>
     requires { (Beside (length work.old) base m source m) × (k < 4) × (first ≤ length part.now) }
-    ensures { Brings work.old work.new source m base k (renames part.now first) result.wrong result.count }
+    ensures { let B = Brings work.old work.new source m base k (renames part.now first) in MatchOption result (B true 0) (B false) }
 {
     if some_stroked(work, source, m, k) {
-        return Brought {
-            wrong: true,
-            count: 0,
-        };
+        return None;
     }
     stroke(work, source, m, k);
     if wrong_old(work, source, m, part, first) {
-        return Brought {
-            wrong: true,
-            count: 0,
-        };
+        return None;
     }
     let n = rename(work, source, m, base, part, first);
-    Brought {
-        wrong: n < m,
-        count: n,
-    }
+    if n < m { None } else { Some(n) }
 }

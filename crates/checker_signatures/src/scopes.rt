@@ -21,13 +21,11 @@ pub fn push(work: &mut [u32], base: usize, n: usize, source: usize, m: usize) ->
     ensures { Pushed work.old work.new base n (rows work.old source m) result }
 {
     let top = base + 2 * n;
-    let mut j = 0;
-    while j < m {
+    for j in 0..m {
         let at = source + 2 * j;
         let id = word(work, at);
         let place = word(work, at + 1);
         put_row(work, top + 2 * j, id, place);
-        j += 1;
     }
     n + m
 }

@@ -17,9 +17,7 @@ pub fn find(work: &[u32], base: usize, m: usize, id: usize) -> usize
     requires { base + 2 * m ≤ length work.now }
     ensures { Finds work.now base m id result }
 {
-    let mut j = m;
-    while 0 < j {
-        j -= 1;
+    for j in (0..m).rev() {
         if word(work, base + 2 * j) == id {
             return j;
         }
@@ -43,15 +41,13 @@ fn put_before(work: &mut [u32], at: usize, k: usize, id: usize, place: usize)
 {
     let mut i = id;
     let mut p = place;
-    let mut j = 0;
-    while j < k {
+    for j in 0..k {
         let q = at + 2 * j;
         let x = word(work, q);
         let y = word(work, q + 1);
         put_row(work, q, i, p);
         i = x;
         p = y;
-        j += 1;
     }
     put_row(work, at + 2 * k, i, p);
 }
@@ -61,8 +57,7 @@ pub fn insert(work: &mut [u32], base: usize, m: usize, id: usize, place: usize) 
     requires { (base + 2 * (m + 1) ≤ length work.old) × (id < 2 ^ 32) × (place < 2 ^ 32) }
     ensures { Table work.old work.new base (insert_row id place (rows work.old base m)) result }
 {
-    let mut j = 0;
-    while j < m {
+    for j in 0..m {
         let x = word(work, base + 2 * j);
         if x == id {
             return m;
@@ -71,7 +66,6 @@ pub fn insert(work: &mut [u32], base: usize, m: usize, id: usize, place: usize) 
             put_before(work, base + 2 * j, m - j, id, place);
             return m + 1;
         }
-        j += 1;
     }
     put_row(work, base + 2 * m, id, place);
     m + 1
@@ -83,13 +77,11 @@ pub fn merge(work: &mut [u32], source: usize, k: usize, base: usize, m: usize) -
     ensures { Table work.old work.new base (merge_rows (rows work.old source k) (rows work.old base m)) result }
 {
     let mut n = m;
-    let mut j = 0;
-    while j < k {
+    for j in 0..k {
         let at = source + 2 * j;
         let id = word(work, at);
         let place = word(work, at + 1);
         n = insert(work, base, n, id, place);
-        j += 1;
     }
     n
 }
@@ -107,13 +99,10 @@ pub fn declare(
     requires { (base + 2 * (m + (length part.now - first)) ≤ length work.old) × (place < 2 ^ 32) }
     ensures { Table work.old work.new base (declare_rows (drop first part.now) place (rows work.old base m)) result }
 {
-    let e = part.len();
     let mut n = m;
-    let mut i = first;
-    while i < e {
+    for i in first..part.len() {
         let id = word(part, i);
         n = insert(work, base, n, id, place);
-        i += 1;
     }
     n
 }

@@ -1,5 +1,5 @@
 // The power of a set, on words: at most three members have one of at most 64 words. The definitions are in the crate `enumeration_rules`.
-ghost use Rattle.std.specs.Prelude.{◌≡◌, ℕ, ◌^◌, ◌≤◌, List, ◌∷◌, ◌++◌, length, drop};
+ghost use Rattle.std.specs.Prelude.{◌≡◌, ℕ, ◌^◌, ◌≤◌, List, ◌∷◌, ◌++◌, length};
 ghost use Rattle.values.specs.Held.{keep, Building};
 ghost use Rattle.values.specs.Value.{Values, set, encode};
 ghost use Rattle.enumeration_rules.specs.Enumeration.{subsets};
@@ -25,28 +25,31 @@ const MASKS: [usize; 8] = [0, 1, 2, 4, 3, 5, 6, 7];
 const TWICE: usize = 2 * (limits::VALUE - HEAD);
 
 // Of n members, how many the mask takes.
-fn taken(n: usize, mask: usize) -> usize
+fn taken(n: usize, mut mask: usize) -> usize
     ensures { (result ≡ taken_on n mask) × (result ≤ n) }
 {
-    if n == 0 {
-        return 0;
+    let mut k = 0;
+    for _i in 0..n {
+        k += mask % 2;
+        mask /= 2;
     }
-    mask % 2 + taken(n - 1, mask / 2)
+    k
 }
 
 // After what is built, those of the n values from w on that the mask takes.
-fn chosen(u: &mut [u32], at: usize, n: usize, mask: usize, w: &[u32]) -> usize
+fn chosen(u: &mut [u32], mut at: usize, n: usize, mut mask: usize, w: &[u32]) -> usize
     ensures { (ws : List ℕ) → Building u.old at ws → Building u.new result (ws ++ masked_on n mask w.now) }
 {
-    if n == 0 {
-        return at;
+    let mut rest = w;
+    for _i in 0..n {
+        let k = span(rest);
+        if mask % 2 == 1 {
+            at = put(u, at, words::span(rest, 0, k));
+        }
+        mask /= 2;
+        rest = from(rest, k);
     }
-    let k = span(w);
-    if mask % 2 == 1 {
-        let a = put(u, at, words::span(w, 0, k));
-        return chosen(u, a, n - 1, mask / 2, from(w, k));
-    }
-    chosen(u, at, n - 1, mask / 2, from(w, k))
+    at
 }
 
 // The set of those members.
@@ -59,20 +62,17 @@ fn subset(u: &mut [u32], at: usize, n: usize, mask: usize, w: &[u32]) -> usize
     chosen(u, a, n, mask, w)
 }
 
-// The sets of the masks from j on that are below e, which is 2 to the n.
-fn subsets(u: &mut [u32], at: usize, j: usize, n: usize, e: usize, w: &[u32]) -> usize
+// The sets of the masks that are below e, which is 2 to the n.
+fn subsets(u: &mut [u32], mut at: usize, n: usize, e: usize, w: &[u32]) -> usize
     requires { (n ≤ 3) × (e ≡ 2 ^ n) }
-    ensures { (ws : List ℕ) → Building u.old at ws → Building u.new result (ws ++ sets_on (drop j masks) n w.now) }
+    ensures { (ws : List ℕ) → Building u.old at ws → Building u.new result (ws ++ sets_on masks n w.now) }
 {
-    if MASKS.len() <= j {
-        return at;
+    for m in &MASKS {
+        if *m < e {
+            at = subset(u, at, n, *m, w);
+        }
     }
-    let m = MASKS[j];
-    if m < e {
-        let a = subset(u, at, n, m, w);
-        return subsets(u, a, j + 1, n, e, w);
-    }
-    subsets(u, at, j + 1, n, e, w)
+    at
 }
 
 // How many subsets n members have.
@@ -80,16 +80,7 @@ fn two_to(n: usize) -> usize
     requires { n ≤ 3 }
     ensures { (result ≡ 2 ^ n) × (1 ≤ result) × (result ≤ 8) }
 {
-    if n == 0 {
-        return 1;
-    }
-    if n == 1 {
-        return 2;
-    }
-    if n == 2 {
-        return 4;
-    }
-    8
+    1 << n
 }
 
 // The power of the set s. Where it has over 64 words, nothing is listed.
@@ -107,6 +98,6 @@ pub fn power(s: &[u32]) -> Held
     let head = [SET, e as u32];
     let mut u = [0u32; limits::VALUE];
     let a = put(&mut u, 0, &head);
-    let b = subsets(&mut u, a, 0, n, e, from(s, HEAD));
+    let b = subsets(&mut u, a, n, e, from(s, HEAD));
     built(u, b)
 }

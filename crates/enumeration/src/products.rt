@@ -30,27 +30,29 @@ fn longer(u: &mut [u32], at: usize, t: &[u32], m: &[u32]) -> usize
 }
 
 // The tuple t with each of the n values from w on.
-fn endings(u: &mut [u32], at: usize, n: usize, t: &[u32], w: &[u32]) -> usize
+fn endings(u: &mut [u32], mut at: usize, n: usize, t: &[u32], w: &[u32]) -> usize
     ensures { (ws : List ℕ) → Building u.old at ws → Building u.new result (ws ++ endings_on n t.now w.now) }
 {
-    if n == 0 {
-        return at;
+    let mut rest = w;
+    for _i in 0..n {
+        let k = span(rest);
+        at = longer(u, at, t, words::span(rest, 0, k));
+        rest = from(rest, k);
     }
-    let k = span(w);
-    let a = longer(u, at, t, words::span(w, 0, k));
-    endings(u, a, n - 1, t, from(w, k))
+    at
 }
 
 // The m tuples from p on, with each of the n values from w on.
-fn tuples(u: &mut [u32], at: usize, m: usize, p: &[u32], n: usize, w: &[u32]) -> usize
+fn tuples(u: &mut [u32], mut at: usize, m: usize, p: &[u32], n: usize, w: &[u32]) -> usize
     ensures { (ws : List ℕ) → Building u.old at ws → Building u.new result (ws ++ tuples_on m p.now n w.now) }
 {
-    if m == 0 {
-        return at;
+    let mut rest = p;
+    for _i in 0..m {
+        let k = span(rest);
+        at = endings(u, at, n, words::span(rest, 0, k), w);
+        rest = from(rest, k);
     }
-    let k = span(p);
-    let a = endings(u, at, n, words::span(p, 0, k), w);
-    tuples(u, a, m - 1, from(p, k), n, w)
+    at
 }
 
 // The set p of tuples, with each member of the set s after each.

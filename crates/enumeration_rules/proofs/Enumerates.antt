@@ -10,8 +10,8 @@ use Rattle.values.specs.Order.{or_else, compare, is_less, is_same, same}
 use Rattle.values.specs.Value.{Value, set, Values, cons, count, encode, encodes}
 use Rattle.values.specs.WellFormed.{well_formed, all_well_formed}
 use Rattle.values.specs.SetValues.{same_value, is_in}
-use Rattle.values.specs.declared.order.Order.{Order}
-use Rattle.values.specs.declared.order.Order.TheVariants.{Less, Same, Greater}
+use Rattle.std.specs.declared.cmp.Ordering.{Ordering}
+use Rattle.std.specs.declared.cmp.Ordering.TheVariants.{Less, Equal, Greater}
 use Rattle.values.proofs.Equality.{compare_refl, is_same_lem}
 use Rattle.values.proofs.Inserting.{flip, compare_flip}
 use Rattle.values.proofs.Joined.{value_join}
@@ -46,12 +46,12 @@ unfolding is_in
 unlike_in v w vs e h = rw e at h
 
 -- what is above u is not the same as u
-not_in : (u w : Value) {vs : Values} → Members (Below (encode u)) vs → compare (encode u) (encode w) ≡ Same → is_in w vs ≡ false
+not_in : (u w : Value) {vs : Values} → Members (Below (encode u)) vs → compare (encode u) (encode w) ≡ Equal → is_in w vs ≡ false
 unfolding is_less
 not_in u w {vs} m e = go (is_in w vs) refl
   where
     go : (b : Bool) → is_in w vs ≡ b → b ≡ false
-    go true q = let i = below_in (encode u) w m q in absurd (false≢true (subst (λ (o : Order). is_less o ≡ true) e i))
+    go true q = let i = below_in (encode u) w m q in absurd (false≢true (subst (λ (o : Ordering). is_less o ≡ true) e i))
     go false q = refl
 
 module _ (size : ℕ → ℕ) where
@@ -61,7 +61,7 @@ module _ (size : ℕ → ℕ) where
   abbrev Alike : Values → Values → Type 0
   Alike us vs = (v : Value) → Formed v → Short v → is_in v us ≡ is_in v vs
 
-  tail_alike : (u v : Value) {us vs : Values} → Members (Below (encode u)) us → Members (Below (encode v)) vs → compare (encode u) (encode v) ≡ Same → Alike (cons u us) (cons v vs) → Alike us vs
+  tail_alike : (u v : Value) {us vs : Values} → Members (Below (encode u)) us → Members (Below (encode v)) vs → compare (encode u) (encode v) ≡ Equal → Alike (cons u us) (cons v vs) → Alike us vs
   unfolding is_in same_value same
   tail_alike u v {us} {vs} a b e f w g s = go (is_same (compare (encode u) (encode w))) refl
     where
@@ -72,21 +72,21 @@ module _ (size : ℕ → ℕ) where
       go false q = let h = f w g s in rw (← (same_left (encode u) (encode v) (encode w) e), q) at h
 
   abbrev SameLists : Values → Values → Type 0
-  SameLists us vs = (compare (encodes us) (encodes vs) ≡ Same) × (count us ≡ count vs)
+  SameLists us vs = (compare (encodes us) (encodes vs) ≡ Equal) × (count us ≡ count vs)
 
   -- the first members are the same: the lower one would be in no other place of the other list
   firsts : (u v : Value) (us vs : Values) → Short u → Short v → Members (Below (encode u)) us → Members (Below (encode v)) vs → Formed u → Formed v → Alike (cons u us) (cons v vs) →
-      (compare (encode u) (encode v) ≡ Same → SameLists us vs) → SameLists (cons u us) (cons v vs)
+      (compare (encode u) (encode v) ≡ Equal → SameLists us vs) → SameLists (cons u us) (cons v vs)
   unfolding encode count or_else flip same_value same is_same is_less
   firsts u v us vs h k a b x y f ih = go (compare (encode u) (encode v)) refl
     where
-      go : (o : Order) → compare (encode u) (encode v) ≡ o → SameLists (cons u us) (cons v vs)
+      go : (o : Ordering) → compare (encode u) (encode v) ≡ o → SameLists (cons u us) (cons v vs)
       go Less e =
           let q : compare (encode v) (encode u) ≡ Greater = compare_flip (encode u) (encode v) ∙ rw e in
           let i = below_in (encode v) u b (unlike_in u v vs (rw q) (sym (f u x h) ∙ first_in u us)) in
-          absurd (false≢true (subst (λ (o : Order). is_less o ≡ true) q i))
-      go Same e = let r = ih e in (rw (value_join u v (encodes us) (encodes vs) h k, e) r.0, ap suc r.1)
-      go Greater e = let i = below_in (encode u) v a (unlike_in v u us (rw e) (f v y k ∙ first_in v vs)) in absurd (false≢true (subst (λ (o : Order). is_less o ≡ true) e i))
+          absurd (false≢true (subst (λ (o : Ordering). is_less o ≡ true) q i))
+      go Equal e = let r = ih e in (rw (value_join u v (encodes us) (encodes vs) h k, e) r.0, ap suc r.1)
+      go Greater e = let i = below_in (encode u) v a (unlike_in v u us (rw e) (f v y k ∙ first_in v vs)) in absurd (false≢true (subst (λ (o : Ordering). is_less o ≡ true) e i))
 
   same_lists : {us vs : Values} → Up us → Up vs → Members Formed us → Members Formed vs → Alike us vs → SameLists us vs
   unfolding encode count compare is_in

@@ -6,8 +6,8 @@ use Prim.Native.Nat.{ℕ, ◌<◌, ◌^◌}
 use Rattle.values.specs.Order.{compare_word, or_else, compare, is_same, same}
 use Rattle.values.specs.Value.{Value, Values, cons, count, encode, encodes}
 use Rattle.values.specs.SetValues.{same_value, is_in}
-use Rattle.values.specs.declared.order.Order.{Order}
-use Rattle.values.specs.declared.order.Order.TheVariants.{Less, Same, Greater}
+use Rattle.std.specs.declared.cmp.Ordering.{Ordering}
+use Rattle.std.specs.declared.cmp.Ordering.TheVariants.{Less, Equal, Greater}
 use Rattle.enumeration_rules.specs.Enumeration.{before, each}
 use Rattle.values.proofs.WordOrder.{word_alike, word_itself}
 use Rattle.values.proofs.Joined.{value_join}
@@ -37,10 +37,10 @@ unfolding has_row
 has_append ws [] ys = refl
 has_append ws (r ∷ xs) ys = rw (has_append ws xs ys) (or_assoc (same (encodes r) (encodes ws)) (has_row ws xs) (has_row ws ys))
 
-same_else : (o p : Order) → is_same (or_else o p) ≡ (is_same o && is_same p)
+same_else : (o p : Ordering) → is_same (or_else o p) ≡ (is_same o && is_same p)
 unfolding is_same or_else
 same_else Less p = refl
-same_else Same p = refl
+same_else Equal p = refl
 same_else Greater p = refl
 
 -- a row that begins with v, against one that begins with w
@@ -74,9 +74,9 @@ module _ (t : ℕ) (f : Values → Value) (e : (r : Values) → encode (f r) ≡
   unfolding same_value same compare or_else is_same
   unlike r ws a b c = rw (e r, e ws, word_itself t) (go (compare_word (count r) (count ws)) refl)
     where
-      go : (o : Order) → compare_word (count r) (count ws) ≡ o → is_same (or_else o (compare (encodes r) (encodes ws))) ≡ false
+      go : (o : Ordering) → compare_word (count r) (count ws) ≡ o → is_same (or_else o (compare (encodes r) (encodes ws))) ≡ false
       go Less q = refl
-      go Same q = absurd (c (word_alike (count r) (count ws) a b q))
+      go Equal q = absurd (c (word_alike (count r) (count ws) a b q))
       go Greater q = refl
 
   pub in_none : (ws : Values) {xs : List Values} → count ws < 2 ^ 32 → All (λ r. (count r < 2 ^ 32) × (count r ≡ count ws → ⊥)) xs → is_in (f ws) (each f xs) ≡ false

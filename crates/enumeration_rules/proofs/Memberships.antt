@@ -13,8 +13,8 @@ use Rattle.values.specs.Order.{compare_word, or_else, compare, is_less, is_same,
 use Rattle.values.specs.Value.{Value, int, element, set, tuple, Values, nil, cons, count, encode, encodes}
 use Rattle.values.specs.WellFormed.{well_formed, all_well_formed}
 use Rattle.values.specs.SetValues.{same_value, is_in}
-use Rattle.values.specs.declared.order.Order.{Order}
-use Rattle.values.specs.declared.order.Order.TheVariants.{Less, Same, Greater}
+use Rattle.std.specs.declared.cmp.Ordering.{Ordering}
+use Rattle.std.specs.declared.cmp.Ordering.TheVariants.{Less, Equal, Greater}
 use Rattle.values.proofs.Encoding.{count_few}
 use Rattle.values.proofs.Inserting.{flip, compare_flip}
 use Rattle.enumeration_rules.specs.Enumeration.{before, rows, choices, choices_from, picks, each, subsets, tuples, all_in, each_in, in_power, in_product}
@@ -81,14 +81,14 @@ product_member vss h n (tuple ws) l = tuple_in vss ws (all_map short_members h) 
 
 -- ---- the power
 
-less_unlike : (o : Order) → is_less o ≡ true → is_same o ≡ false
+less_unlike : (o : Ordering) → is_less o ≡ true → is_same o ≡ false
 unfolding is_same is_less
 less_unlike Less e = refl
-less_unlike Same e = absurd (false≢true e)
+less_unlike Equal e = absurd (false≢true e)
 less_unlike Greater e = refl
 
 -- two same values are the same to any third
-same_right : (p a b : List ℕ) → compare a b ≡ Same → compare p a ≡ compare p b
+same_right : (p a b : List ℕ) → compare a b ≡ Equal → compare p a ≡ compare p b
 same_right p a b e = compare_flip a p ∙ ap flip (same_left a b p e) ∙ sym (compare_flip b p)
 
 pub below_in : (p : List ℕ) (w : Value) {vs : Values} → Members (Below p) vs → is_in w vs ≡ true → Below p w

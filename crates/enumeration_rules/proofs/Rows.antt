@@ -9,8 +9,8 @@ use Rattle.words.proofs.Loops.{and_left, and_right}
 use Rattle.values.specs.Order.{or_else, compare, is_less}
 use Rattle.values.specs.Value.{Value, Values, nil, cons, encode, encodes}
 use Rattle.values.specs.WellFormed.{ascends, well_formed, all_well_formed}
-use Rattle.values.specs.declared.order.Order.{Order}
-use Rattle.values.specs.declared.order.Order.TheVariants.{Less, Same, Greater}
+use Rattle.std.specs.declared.cmp.Ordering.{Ordering}
+use Rattle.std.specs.declared.cmp.Ordering.TheVariants.{Less, Equal, Greater}
 use Rattle.values.proofs.Equality.{compare_refl}
 use Rattle.values.proofs.Unique.{both}
 use Rattle.enumeration_rules.specs.Enumeration.{before, rows, each}
@@ -113,10 +113,10 @@ ascends_up p (cons v vs) l h =
     let a = and_right (is_less (compare p (encode v))) _ h in
     up_more {v = v} (omega arith) (ascends_below (encode v) vs a) (ascends_up (encode v) vs (omega arith) a)
 
-less_first : (o p : Order) → is_less o ≡ true → is_less (or_else o p) ≡ true
+less_first : (o p : Ordering) → is_less o ≡ true → is_less (or_else o p) ≡ true
 unfolding is_less or_else
 less_first Less p h = h
-less_first Same p h = absurd (false≢true h)
+less_first Equal p h = absurd (false≢true h)
 less_first Greater p h = h
 
 -- after one member, by what follows; else by the members

@@ -5,7 +5,7 @@
 ghost use Rattle.std.specs.Prelude.{◌≡◌, ◌≤◌, length};
 ghost use Rattle.reader_rules.specs.Reading.{read_of};
 ghost use Rattle.reader_rules.specs.Decode.{tree_of};
-ghost use Rattle.reader_rules.specs.declared.Reading.TheVariants.{Readable};
+ghost use Rattle.reader_rules.specs.Refusals.{Readable};
 ghost use Rattle.states_rules.specs.Names.{document_names};
 ghost use Rattle.states_rules.specs.States.{state_of};
 ghost use Rattle.evaluator_rules.specs.Outcomes.{Outcome};
@@ -17,30 +17,25 @@ ghost use Rattle.evaluator_paragraphs.specs.Paragraphs.{Stepped};
 ghost use Rattle.evaluator.specs.RunCall.{RunCall};
 
 use codes::{findings, limits};
-use evaluator_operations::worked::Judgement;
-use evaluator_rules::Finding;
+use evaluator_paragraphs::Progress;
+use evaluator_rules::Ending;
 use layout::part;
-use reader_rules::Reading;
+use reader_rules::Refusal;
 use words::{clear, word};
 
 // What a result of the paragraphs says of the run.
-fn finding_of(y: Judgement) -> Finding
+fn finding_of(y: Result<Progress, Refusal>) -> Result<Ending, Refusal>
     ensures { (o : Outcome Step) → Told (Stepped (λ s. Unit {0})) y o → result ≡ (ending o).finding }
 {
-    if y.number != 0 {
-        return Finding::Refused {
-            number: y.number,
-            place: y.place,
-        };
+    match y {
+        Ok(Progress::Onward) => Ok(Ending::Holds),
+        Ok(Progress::Failed { node }) => Ok(Ending::Fails { node: node }),
+        Err(refusal) => Err(refusal),
     }
-    if y.flag {
-        return Finding::Holds;
-    }
-    Finding::Fails { node: y.place }
 }
 
 // The run over the paragraphs, for a well-formed state.
-fn run_paragraphs(doc: &[u32], state: &[u32], work: &mut [u32]) -> Finding
+fn run_paragraphs(doc: &[u32], state: &[u32], work: &mut [u32]) -> Result<Ending, Refusal>
     requires { (read_of doc.now ≡ Readable) × (state_of (document_names (tree_of doc.now)) state.now ≡ Readable) × (run_work_words ≤ length work.old) }
     ensures { result ≡ (ending (run_document (tree_of doc.now) (said doc.now state.now))).finding }
 {
@@ -58,44 +53,30 @@ fn run_paragraphs(doc: &[u32], state: &[u32], work: &mut [u32]) -> Finding
 }
 
 // A readable document, with a work area that is large enough: 41, then the paragraphs.
-fn run_state(doc: &[u32], state: &[u32], work: &mut [u32]) -> Finding
+fn run_state(doc: &[u32], state: &[u32], work: &mut [u32]) -> Result<Ending, Refusal>
     requires { (read_of doc.now ≡ Readable) × (run_work_words ≤ length work.old) }
     ensures { result ≡ (run_state (state_of (document_names (tree_of doc.now)) state.now) (tree_of doc.now) state.now).finding }
 {
-    let c = states::first_ill_formed(doc, state);
-    match c {
-        Reading::Readable => run_paragraphs(doc, state, work),
-        Reading::Refused { number, place } => Finding::Refused {
-            number: number,
-            place: place,
-        },
-    }
+    states::first_ill_formed(doc, state)?;
+    run_paragraphs(doc, state, work)
 }
 
 // Reading's findings, then 21, then the run.
-fn run_read(doc: &[u32], state: &[u32], work: &mut [u32]) -> Finding
+fn run_read(doc: &[u32], state: &[u32], work: &mut [u32]) -> Result<Ending, Refusal>
     ensures { result ≡ (run_of doc.now state.now (length work.old)).finding }
 {
-    let c = reader::read(doc);
-    match c {
-        Reading::Readable => {
-            if work.len() < limits::RUN_WORK_WORDS {
-                return Finding::Refused {
-                    number: findings::WORK_AREA,
-                    place: 0,
-                };
-            }
-            run_state(doc, state, work)
-        }
-        Reading::Refused { number, place } => Finding::Refused {
-            number: number,
-            place: place,
-        },
+    reader::read(doc)?;
+    if work.len() < limits::RUN_WORK_WORDS {
+        return Err(Refusal {
+            number: findings::WORK_AREA,
+            place: 0,
+        });
     }
+    run_state(doc, state, work)
 }
 
 // The run of a document over a state. The work area is zeros afterwards.
-pub fn run(doc: &[u32], state: &[u32], work: &mut [u32]) -> Finding
+pub fn run(doc: &[u32], state: &[u32], work: &mut [u32]) -> Result<Ending, Refusal>
     ensures { RunCall doc.now state.now work.old work.new result }
 {
     let found = run_read(doc, state, work);

@@ -1,50 +1,46 @@
 -- Assignments over the blocks of the work area, and a Text's lines before them.
 use mathlib.Core.Path.{◌≡◌, refl, sym, ap, subst, ◌∙◌}
-use mathlib.Core.Bool.{Bool, true, false, not, true≢false}
-use mathlib.Core.Logic.{◌⊎◌, inl, inr, ⊎_elim}
-use mathlib.Core.List.{List, [], ◌∷◌, ◌++◌, append_assoc}
+use mathlib.Core.Bool.{Bool, true, false, true≢false}
+use mathlib.Core.Logic.{inl, inr, ⊎_elim}
+use mathlib.Core.List.{List, [], ◌∷◌}
 use Prim.Native.Nat.{ℕ, zero, suc, ◌+◌, ◌*◌, ◌-◌, ◌≤◌, ◌<◌}
 use native.Mathlib.Omega.{arith}
 use native.Mathlib.Numerals.{add-one}
-use lib.Dec.{eqb}
-use lib.ListN.{length, get_or, take, drop, length-append, length-drop, take-append-drop}
-use lib.Seq.{take_at, drop_at, drop-drop, get_or-drop, take-append-le, get_or-take}
+use lib.ListN.{length, get_or, take, drop}
+use lib.Seq.{drop-drop, get_or-drop}
 use borrow.Author.Tests.{eq-eqb, ne_eqb}
 use Rattle.layout.specs.Layout.{part}
-use Rattle.layout.specs.Layout as Layout
-use Rattle.values.specs.Value.{Value, Values, nil, cons, count, encode, encodes}
-use Rattle.values.specs.Value as Value
-use Rattle.values.specs.Span.{span}
+use Rattle.values.specs.Value.{Value, Values, nil, count, encode, encodes}
 use Rattle.values.specs.declared.held.Held.{Held}
-use Rattle.values.proofs.Encoding.{span_value}
-use Rattle.reader_rules.specs.Kinds.{expressions, predicates, texts, lines}
-use Rattle.reader_rules.specs.Limits.{depth}
+use Rattle.reader_rules.specs.Kinds.{expressions, predicates, texts}
 use Rattle.reader_rules.specs.Limited.{declared_count, text_declares}
 use Rattle.reader_rules.specs.Nodes.{kind_at, operand_at}
-use Rattle.reader_rules.specs.Promise.{At, Lower}
-use Rattle.reader_rules.specs.Tree.{Quantifier, forall, exists, text, Lines, end, declaration, inclusion, include, comprehension, quantified}
-use Rattle.reader_rules.specs.Decode.{expr_at, pred_at, text_at, include_at, line_at, lines_from, quantifier_of}
+use Rattle.reader_rules.specs.Promise.{Lower}
+use Rattle.reader_rules.specs.Tree.{Quantifier, forall, exists}
+use Rattle.reader_rules.specs.Decode.{expr_at, pred_at, lines_from, quantifier_of}
 use Rattle.reader_rules.proofs.DepthLaws.{deeper}
 use Rattle.reader_rules.proofs.WithinLimits.{depth_bound}
 use Rattle.reader_rules.proofs.NameCounts.{text_few}
 use Rattle.reader_rules.proofs.TreeExpr.{expr_comprehension}
 use Rattle.reader_rules.proofs.TreePred.{pred_quantified}
-use Rattle.reader_rules.proofs.TreeText.{text_kind, text_law, line_range, line_declaration, line_inclusion, include_law, as_include}
-use Rattle.reader_rules.proofs.TreeLists.{lines_go, lines_end_lem}
-use Rattle.evaluator_rules.specs.Outcomes.{Outcome, ◌>>=◌, pure, stop, keep, after}
-use Rattle.evaluator_rules.specs.Environment.{Environment, bind, valued}
-use Rattle.evaluator_rules.specs.Operations.{add, as_set}
-use Rattle.evaluator_rules.specs.Assignments.{Domains, no_more, domain, domains, Body, Flow, go, halt, next, each, assign, flow_of, truth_of, gathered}
-use Rattle.evaluator_rules.specs.Rules.{eval_expr, eval_pred, eval_lines, over_text, stop_include}
+use Rattle.reader_rules.proofs.TreeText.{text_kind, text_law}
+use Rattle.evaluator_rules.specs.Outcomes.{Outcome, ◌>>=◌, pure, keep, after}
+use Rattle.evaluator_rules.specs.Environment.{Environment}
+use Rattle.evaluator_rules.specs.Operations.{add}
+use Rattle.evaluator_rules.specs.Assignments.{Domains, no_more, domain, Body, Flow, go, halt, assign, flow_of, truth_of, gathered}
+use Rattle.evaluator_rules.specs.Rules.{eval_expr, eval_pred, eval_lines, over_text}
 use Rattle.evaluator_nodes.specs.Turns.{body_if, body_at, turn_at}
 use Rattle.evaluator_operations.specs.Steps.{verdict_of}
-use Rattle.evaluator_operations.specs.declared.worked.Judgement.{Judgement}
-use Rattle.evaluator_operations.specs.Worked.{narrow, all_narrow, Holds, Told, fine, ceased, Valued, Judged, Flowed, SetIn, Grown, Stops}
+use Rattle.std.proofs.Common.{Result, Ok, Err}
+use Rattle.reader_rules.specs.declared.Refusal.{Refusal}
+use Rattle.evaluator_operations.specs.declared.worked.Flow.{Flow as Pace}
+use Rattle.evaluator_operations.specs.declared.worked.Flow.TheVariants.{Go, Halt}
+use Rattle.evaluator_operations.specs.Worked.{narrow, Holds, Told, fine, Judged, Flowed, SetIn, Grown}
 use Rattle.evaluator_scope.specs.Blocks.{field, Lies, Stored, in_work, Scoped, hidden, named, Pending, more, headed, Pushed, Leaves, head_words, block_words}
 use Rattle.evaluator_scope.specs.Blocks as Blocks
-use Rattle.evaluator_nodes.specs.Ready.{Ready, Handed, Scoping, RestIn, join_domains, lines_then, Assigns, SoFar, AssignTold, EachTold, BodyTold, LinesTold}
-use Rattle.evaluator_operations.proofs.ToldLaws.{after_told, stop_told, go_told, halt_told, at_pure, at_stop, choose_told}
-use Rattle.evaluator_operations.proofs.OperationLaws.{keep_fine, held_tag, tag_set, tag_none, narrow_head, narrow_tail}
+use Rattle.evaluator_nodes.specs.Ready.{Ready, Handed, Scoping, RestIn, join_domains, lines_then, Assigns, SoFar, AssignTold, EachTold, BodyTold}
+use Rattle.evaluator_operations.proofs.ToldLaws.{go_told, halt_told, choose_told}
+use Rattle.evaluator_operations.proofs.OperationLaws.{keep_fine}
 use Rattle.evaluator_nodes.proofs.NodeLaws.{in_words, few_words}
 
 -- ---- a quantifier or Comprehension
@@ -82,60 +78,85 @@ module _ {doc work : List ℕ} {n m k : ℕ} (h : Scoping doc work n m k) where
 
 -- ---- one assignment
 module _ (doc : List ℕ) (k a : ℕ) (x : a ≡ operand_at doc (operand_at doc k 1) 1) (scope : Environment) (vs : Values) where
-  pub turn_stop : {G : Values → Type 0} {r : Judgement} → Told Judged r (eval_pred (pred_at doc a) scope) → (r.number ≡ 0 → ⊥) → Told (Flowed G) r (turn_at doc k scope vs)
+  pub turn_stop : {G : Values → Type 0} {f : Refusal} → Told Judged (Err f) (eval_pred (pred_at doc a) scope) → Told (Flowed G) (Err f) (turn_at doc k scope vs)
   unfolding turn_at
-  turn_stop t z = rw (← x) (halt_told _ t z)
+  turn_stop t = rw (← x) (halt_told _ t)
 
-  pub turn_true : {G : Values → Type 0} {r s : Judgement} → Told Judged r (eval_pred (pred_at doc a) scope) → r.number ≡ 0 → r.flag ≡ true → Told (Flowed G) s (body_at doc k scope vs) →
+  pub turn_true : {G : Values → Type 0} {b : Bool} {s : Result Pace Refusal} → Told Judged (Ok b) (eval_pred (pred_at doc a) scope) → b ≡ true → Told (Flowed G) s (body_at doc k scope vs) →
       Told (Flowed G) s (turn_at doc k scope vs)
   unfolding turn_at
-  turn_true t z b g = rw (← x) (go_told t z (λ y j. choose_told y (λ w. g) (λ w. absurd (true≢false (sym b ∙ j.flag ∙ w)))))
+  turn_true t b g = rw (← x) (go_told t (λ y j. choose_told y (λ w. g) (λ w. absurd (true≢false (sym b ∙ j ∙ w)))))
 
-  pub turn_false : {G : Values → Type 0} {r s : Judgement} → Told Judged r (eval_pred (pred_at doc a) scope) → r.number ≡ 0 → r.flag ≡ false → s.number ≡ 0 → s.flag ≡ false → G vs →
-      Told (Flowed G) s (turn_at doc k scope vs)
+  pub turn_false : {G : Values → Type 0} {b : Bool} → Told Judged (Ok b) (eval_pred (pred_at doc a) scope) → b ≡ false → G vs → Told (Flowed G) (Ok Go) (turn_at doc k scope vs)
   unfolding turn_at
-  turn_false t z b y f g = rw (← x) (go_told t z (λ u j. choose_told u (λ w. absurd (true≢false (sym w ∙ sym j.flag ∙ b))) (λ w. fine y (f, g))))
+  turn_false t b g = rw (← x) (go_told t (λ u j. choose_told u (λ w. absurd (true≢false (sym w ∙ sym j ∙ b))) (λ w. fine (refl, g))))
 
-flow_verdict : (G : Values → Type 0) (q : Quantifier) (b : Bool) (s : Judgement) → s.flag ≡ verdict_of q b → G nil → Flowed G s (flow_of q b)
+flow_halt : (G : Values → Type 0) (q : Quantifier) (b : Bool) → true ≡ verdict_of q b → Flowed G Halt (flow_of q b)
 unfolding verdict_of flow_of
-flow_verdict G forall true s f g = (f, g)
-flow_verdict G forall false s f g = f
-flow_verdict G exists true s f g = f
-flow_verdict G exists false s f g = (f, g)
+flow_halt G forall true e = absurd (true≢false e)
+flow_halt G forall false e = refl
+flow_halt G exists true e = refl
+flow_halt G exists false e = absurd (true≢false e)
 
-grown_flow : {doc : List ℕ} {k : ℕ} {u : List ℕ} {s : Judgement} {o : Outcome Values} → Told (Grown u) s o → Told (Flowed (SoFar doc k u)) s (o >>= λ us. pure (go us))
+flow_go : (G : Values → Type 0) (q : Quantifier) (b : Bool) → false ≡ verdict_of q b → G nil → Flowed G Go (flow_of q b)
+unfolding verdict_of flow_of
+flow_go G forall true e g = (refl, g)
+flow_go G forall false e g = absurd (true≢false (sym e))
+flow_go G exists true e g = absurd (true≢false (sym e))
+flow_go G exists false e g = (refl, g)
+
+grown_flow : {doc : List ℕ} {k : ℕ} {u : List ℕ} {d : Unit {0}} {o : Outcome Values} → Told (Grown u) (Ok d) o → Told (Flowed (SoFar doc k u)) (Ok Go) (o >>= λ us. pure (go us))
 unfolding ◌>>=◌ after
-grown_flow (fine {a = us} z g) = fine {a = go us} z (g.flag, record { gathers = λ q. g.gathers })
-grown_flow (ceased a b c) = ceased a b c
+grown_flow (fine {a = us} g) = fine {a = go us} (refl, record { gathers = λ q. g })
 
 module _ (doc : List ℕ) (k b : ℕ) (x : b ≡ operand_at doc k 2) (scope : Environment) (vs : Values) where
-  pub gather_stop : {G : Values → Type 0} → kind_at doc k ≡ 46 → {h : Held} {r : Judgement} → Told (Valued h) r (eval_expr (expr_at doc b) scope) → (r.number ≡ 0 → ⊥) → Told (Flowed G) r (body_at doc k scope vs)
+  pub gather_stop : {G : Values → Type 0} → kind_at doc k ≡ 46 → {f : Refusal} → Told Holds (Err f) (eval_expr (expr_at doc b) scope) → Told (Flowed G) (Err f) (body_at doc k scope vs)
   unfolding body_at body_if
-  gather_stop q t z = rw (eq-eqb (kind_at doc k) 46 q, ← x) (halt_told _ t z)
+  gather_stop q t = rw (eq-eqb (kind_at doc k) 46 q, ← x) (halt_told _ t)
 
-  pub gather_go : {u : List ℕ} → kind_at doc k ≡ 46 → {h : Held} {r s : Judgement} → Told (Valued h) r (eval_expr (expr_at doc b) scope) → r.number ≡ 0 →
-      ((v : Value) → Holds h v → Told (Grown u) s (add k v vs)) → Told (Flowed (SoFar doc k u)) s (body_at doc k scope vs)
+  pub gather_over : {G : Values → Type 0} {u : List ℕ} → kind_at doc k ≡ 46 → {h : Held} {f : Refusal} → Told Holds (Ok h) (eval_expr (expr_at doc b) scope) →
+      ((v : Value) → Holds h v → Told (Grown u) (Err f) (add k v vs)) → Told (Flowed G) (Err f) (body_at doc k scope vs)
   unfolding body_at body_if
-  gather_go q t z g = rw (eq-eqb (kind_at doc k) 46 q, ← x) (go_told t z (λ v j. grown_flow (g v j.held)))
+  gather_over q t g = rw (eq-eqb (kind_at doc k) 46 q, ← x) (go_told t (λ v j. halt_told _ (g v j)))
 
-  pub decide_stop : {G : Values → Type 0} → (kind_at doc k ≡ 46 → ⊥) → {r : Judgement} → Told Judged r (eval_pred (pred_at doc b) scope) → (r.number ≡ 0 → ⊥) → Told (Flowed G) r (body_at doc k scope vs)
+  pub gather_go : {u : List ℕ} → kind_at doc k ≡ 46 → {h : Held} {d : Unit {0}} → Told Holds (Ok h) (eval_expr (expr_at doc b) scope) →
+      ((v : Value) → Holds h v → Told (Grown u) (Ok d) (add k v vs)) → Told (Flowed (SoFar doc k u)) (Ok Go) (body_at doc k scope vs)
   unfolding body_at body_if
-  decide_stop q t z = rw (ne_eqb (kind_at doc k) 46 q, ← x) (halt_told _ t z)
+  gather_go q t g = rw (eq-eqb (kind_at doc k) 46 q, ← x) (go_told t (λ v j. grown_flow (g v j)))
 
-  pub decide_go : {u : List ℕ} → (kind_at doc k ≡ 46 → ⊥) → {r s : Judgement} → Told Judged r (eval_pred (pred_at doc b) scope) → r.number ≡ 0 → s.number ≡ 0 → s.flag ≡ verdict_of (quantifier_of (kind_at doc k)) r.flag →
-      Told (Flowed (SoFar doc k u)) s (body_at doc k scope vs)
+  pub decide_stop : {G : Values → Type 0} → (kind_at doc k ≡ 46 → ⊥) → {f : Refusal} → Told Judged (Err f) (eval_pred (pred_at doc b) scope) → Told (Flowed G) (Err f) (body_at doc k scope vs)
   unfolding body_at body_if
-  decide_go {u} q {r} {s} t z y f =
+  decide_stop q t = rw (ne_eqb (kind_at doc k) 46 q, ← x) (halt_told _ t)
+
+  pub decide_halt : {u : List ℕ} → (kind_at doc k ≡ 46 → ⊥) → {c : Bool} → Told Judged (Ok c) (eval_pred (pred_at doc b) scope) → true ≡ verdict_of (quantifier_of (kind_at doc k)) c →
+      Told (Flowed (SoFar doc k u)) (Ok Halt) (body_at doc k scope vs)
+  unfolding body_at body_if
+  decide_halt {u} q t f =
       rw (ne_eqb (kind_at doc k) 46 q, ← x)
-      (go_told t z (λ v j. fine y (flow_verdict (SoFar doc k u) (quantifier_of (kind_at doc k)) v s (f ∙ ap (verdict_of (quantifier_of (kind_at doc k))) j.flag) (record { gathers = λ e. absurd (q e) }))))
+      (go_told t (λ v j. fine (flow_halt (SoFar doc k u) (quantifier_of (kind_at doc k)) v (f ∙ ap (verdict_of (quantifier_of (kind_at doc k))) j))))
+
+  pub decide_go : {u : List ℕ} → (kind_at doc k ≡ 46 → ⊥) → {c : Bool} → Told Judged (Ok c) (eval_pred (pred_at doc b) scope) → false ≡ verdict_of (quantifier_of (kind_at doc k)) c →
+      Told (Flowed (SoFar doc k u)) (Ok Go) (body_at doc k scope vs)
+  unfolding body_at body_if
+  decide_go {u} q t f =
+      rw (ne_eqb (kind_at doc k) 46 q, ← x)
+      (go_told t (λ v j. fine (flow_go (SoFar doc k u) (quantifier_of (kind_at doc k)) v (f ∙ ap (verdict_of (quantifier_of (kind_at doc k))) j) (record { gathers = λ e. absurd (q e) }))))
 
 -- ---- the assignments, then the verdict or the set
-truth_verdict : (G : Values → Type 0) (q : Quantifier) (f : Flow) (r : Judgement) (b : Bool) → Flowed G r f → b ≡ verdict_of q r.flag → b ≡ truth_of q f
+pub go_not_halt : Go ≡ Halt → ⊥
+go_not_halt e = cc
+
+halt_verdict : (G : Values → Type 0) (q : Quantifier) (f : Flow) → Flowed G Halt f → verdict_of q true ≡ truth_of q f
 unfolding verdict_of truth_of
-truth_verdict G forall (go vs) r b g e = e ∙ ap not g.0
-truth_verdict G forall halt r b g e = e ∙ ap not g
-truth_verdict G exists (go vs) r b g e = e ∙ g.0
-truth_verdict G exists halt r b g e = e ∙ g
+halt_verdict G q (go vs) g = absurd (go_not_halt (sym g.0))
+halt_verdict G forall halt g = refl
+halt_verdict G exists halt g = refl
+
+go_verdict : (G : Values → Type 0) (q : Quantifier) (f : Flow) → Flowed G Go f → verdict_of q false ≡ truth_of q f
+unfolding verdict_of truth_of
+go_verdict G forall (go vs) g = refl
+go_verdict G exists (go vs) g = refl
+go_verdict G q halt g = absurd (go_not_halt g)
 
 module _ {doc work w : List ℕ} {n k : ℕ} (scope : Environment) (t : ℕ) (x : t ≡ get_or w 1 0) where
   module _ (h : Handed doc work w predicates n k) (c : 28 ≤ kind_at doc k) (d : kind_at doc k ≤ 29) where
@@ -168,13 +189,17 @@ module _ {doc work w : List ℕ} {n k : ℕ} (scope : Environment) (t : ℕ) (x 
         subst (λ (j : ℕ). eval_pred (pred_at doc k) scope ≡ (lines_then doc k (lines_from doc j 2 (length (part doc j) - 2)) no_more scope >>= λ f. pure (truth_of (quantifier_of (kind_at doc k)) f)))
         (sym (in_words h 1 t x)) (quant_tree ∙ ap quant_by (sym quant_body))
 
-    pub quant_stop : {G : Values → Type 0} {r : Judgement} → Told (Flowed G) r (lines_then doc k (lines_from doc t 2 (length (part doc t) - 2)) no_more scope) → (r.number ≡ 0 → ⊥) → Told Judged r (eval_pred (pred_at doc k) scope)
-    quant_stop {r = r} g z = subst (Told Judged r) (sym quant_lines) (halt_told _ g z)
+    pub quant_stop : {G : Values → Type 0} {f : Refusal} → Told (Flowed G) (Err f) (lines_then doc k (lines_from doc t 2 (length (part doc t) - 2)) no_more scope) → Told Judged (Err f) (eval_pred (pred_at doc k) scope)
+    quant_stop {f = f} g = subst (Told Judged (Err f)) (sym quant_lines) (halt_told _ g)
 
-    pub quant_go : {G : Values → Type 0} {r s : Judgement} → Told (Flowed G) r (lines_then doc k (lines_from doc t 2 (length (part doc t) - 2)) no_more scope) → r.number ≡ 0 → s.number ≡ 0 →
-        s.flag ≡ verdict_of (quantifier_of (kind_at doc k)) r.flag → Told Judged s (eval_pred (pred_at doc k) scope)
-    quant_go {G} {r} {s} g z y f =
-        subst (Told Judged s) (sym quant_lines) (go_told g z (λ u j. fine y (record { flag = truth_verdict G (quantifier_of (kind_at doc k)) u r s.flag j f })))
+    module _ {G : Values → Type 0} {b : Bool} where
+      pub quant_halt : Told (Flowed G) (Ok Halt) (lines_then doc k (lines_from doc t 2 (length (part doc t) - 2)) no_more scope) → b ≡ verdict_of (quantifier_of (kind_at doc k)) true →
+          Told Judged (Ok b) (eval_pred (pred_at doc k) scope)
+      quant_halt g e = subst (Told Judged (Ok b)) (sym quant_lines) (go_told g (λ u j. fine (e ∙ halt_verdict G (quantifier_of (kind_at doc k)) u j)))
+
+      pub quant_go : Told (Flowed G) (Ok Go) (lines_then doc k (lines_from doc t 2 (length (part doc t) - 2)) no_more scope) → b ≡ verdict_of (quantifier_of (kind_at doc k)) false →
+          Told Judged (Ok b) (eval_pred (pred_at doc k) scope)
+      quant_go g e = subst (Told Judged (Ok b)) (sym quant_lines) (go_told g (λ u j. fine (e ∙ go_verdict G (quantifier_of (kind_at doc k)) u j)))
 
   module _ (h : Handed doc work w expressions n k) (q : kind_at doc k ≡ 46) where
     pub compr_scoping : Scoping doc work n 6 k
@@ -206,18 +231,26 @@ module _ {doc work w : List ℕ} {n k : ℕ} (scope : Environment) (t : ℕ) (x 
         subst (λ (j : ℕ). eval_expr (expr_at doc k) scope ≡ (lines_then doc k (lines_from doc j 2 (length (part doc j) - 2)) no_more scope >>= λ f. keep k (Value.set (gathered f))))
         (sym (in_words h 1 t x)) (compr_tree ∙ ap compr_by (sym compr_body))
 
-    pub compr_stop : {G : Values → Type 0} {h : Held} {r : Judgement} → Told (Flowed G) r (lines_then doc k (lines_from doc t 2 (length (part doc t) - 2)) no_more scope) → (r.number ≡ 0 → ⊥) → Told (Valued h) r (eval_expr (expr_at doc k) scope)
-    compr_stop {h = h} {r = r} g z = subst (Told (Valued h) r) (sym compr_lines) (halt_told _ g z)
+    pub compr_stop : {G : Values → Type 0} {f : Refusal} → Told (Flowed G) (Err f) (lines_then doc k (lines_from doc t 2 (length (part doc t) - 2)) no_more scope) → Told Holds (Err f) (eval_expr (expr_at doc k) scope)
+    compr_stop {f = f} g = subst (Told Holds (Err f)) (sym compr_lines) (halt_told _ g)
 
-    keep_flow : {u : List ℕ} {h : Held} (f : Flow) (r s : Judgement) → Flowed (SoFar doc k u) r f → s.number ≡ 0 → (r.flag ≡ true → Holds h (Value.set nil)) →
-        (r.flag ≡ false → (vs : Values) → SetIn u vs → Holds h (Value.set vs)) → Told (Valued h) s (keep k (Value.set (gathered f)))
+    keep_halt : (G : Values → Type 0) {a : Held} (f : Flow) → Flowed G Halt f → Holds a (Value.set nil) → Told Holds (Ok a) (keep k (Value.set (gathered f)))
     unfolding gathered
-    keep_flow (go vs) r s j y a b = keep_fine k (Value.set vs) s y (b j.0 vs (j.1.gathers q))
-    keep_flow halt r s j y a b = keep_fine k (Value.set nil) s y (a j)
+    keep_halt G (go vs) j e = absurd (go_not_halt (sym j.0))
+    keep_halt G halt j e = keep_fine k (Value.set nil) e
 
-    pub compr_go : {u : List ℕ} {h : Held} {r s : Judgement} → Told (Flowed (SoFar doc k u)) r (lines_then doc k (lines_from doc t 2 (length (part doc t) - 2)) no_more scope) → r.number ≡ 0 → s.number ≡ 0 →
-        (r.flag ≡ true → Holds h (Value.set nil)) → (r.flag ≡ false → (vs : Values) → SetIn u vs → Holds h (Value.set vs)) → Told (Valued h) s (eval_expr (expr_at doc k) scope)
-    compr_go {h = h} {r = r} {s = s} g z y a b = subst (Told (Valued h) s) (sym compr_lines) (go_told g z (λ f j. keep_flow f r s j y a b))
+    keep_go : {u : List ℕ} {a : Held} (f : Flow) → Flowed (SoFar doc k u) Go f → ((vs : Values) → SetIn u vs → Holds a (Value.set vs)) → Told Holds (Ok a) (keep k (Value.set (gathered f)))
+    unfolding gathered
+    keep_go (go vs) j b = keep_fine k (Value.set vs) (b vs (j.1.gathers q))
+    keep_go halt j b = absurd (go_not_halt j)
+
+    module _ {u : List ℕ} {a : Held} where
+      pub compr_halt : Told (Flowed (SoFar doc k u)) (Ok Halt) (lines_then doc k (lines_from doc t 2 (length (part doc t) - 2)) no_more scope) → Holds a (Value.set nil) → Told Holds (Ok a) (eval_expr (expr_at doc k) scope)
+      compr_halt g e = subst (Told Holds (Ok a)) (sym compr_lines) (go_told g (λ f j. keep_halt _ f j e))
+
+      pub compr_go : Told (Flowed (SoFar doc k u)) (Ok Go) (lines_then doc k (lines_from doc t 2 (length (part doc t) - 2)) no_more scope) → ((vs : Values) → SetIn u vs → Holds a (Value.set vs)) →
+          Told Holds (Ok a) (eval_expr (expr_at doc k) scope)
+      compr_go g b = subst (Told Holds (Ok a)) (sym compr_lines) (go_told g (λ f j. keep_go f j b))
 
 -- the Text's identifiers are few
 pub few_declared : {doc work : List ℕ} {n m k : ℕ} → Scoping doc work n m k → (t : ℕ) → t ≡ operand_at doc k 1 → declared_count (lines_from doc t 2 (length (part doc t) - 2)) ≤ 6
@@ -243,7 +276,7 @@ pending_none Blocks.none = refl
 still_none : (w : List ℕ) {u : List ℕ} {b : ℕ} {ds : Domains} → Pending u b 0 ds → Pending w b 0 ds
 still_none w Blocks.none = Blocks.none
 
-pub assigns_none : (doc state before after : List ℕ) (n m k : ℕ) (s s1 : List ℕ) (r : Judgement) → m ≡ 0 → Leaves n before after (BodyTold doc k (turn_at doc k) state before n s s1 r) →
+pub assigns_none : (doc state before after : List ℕ) (n m k : ℕ) (s s1 : List ℕ) (r : Result Pace Refusal) → m ≡ 0 → Leaves n before after (BodyTold doc k (turn_at doc k) state before n s s1 r) →
     Assigns n m before after (AssignTold doc k state before n m s s1 r)
 unfolding assign
 assigns_none doc state before after n zero k s s1 r e g =
@@ -273,7 +306,7 @@ rest_block w b c us l s n e =
       narrow = n;
     }
 
-pub assigns_some : (doc state before after : List ℕ) (n m k c : ℕ) (s s1 : List ℕ) (r : Judgement) → (m ≡ 0 → ⊥) → c ≡ get_or before (block_words * n + 5) 0 →
+pub assigns_some : (doc state before after : List ℕ) (n m k c : ℕ) (s s1 : List ℕ) (r : Result Pace Refusal) → (m ≡ 0 → ⊥) → c ≡ get_or before (block_words * n + 5) 0 →
     Assigns n (m - 1 + 1) before after (EachTold doc k state before n (m - 1) 2 c s s1 r) → Assigns n m before after (AssignTold doc k state before n m s s1 r)
 unfolding assign
 assigns_some doc state before after n zero k c s s1 r e x g = absurd (e refl)

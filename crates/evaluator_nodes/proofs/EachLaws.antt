@@ -1,54 +1,54 @@
 -- One identifier's run through its set: block n of the work area, first its head, then what the assignments above it leave.
 use mathlib.Core.Path.{◌≡◌, refl, sym, ap, subst, ◌∙◌}
-use mathlib.Core.Bool.{true, false, true≢false}
-use mathlib.Core.List.{List, [], ◌∷◌, ◌++◌}
-use Prim.Native.Nat.{ℕ, zero, suc, ◌+◌, ◌*◌, ◌-◌, ◌≤◌, ◌<◌}
+use mathlib.Core.List.{List, ◌++◌}
+use Prim.Native.Nat.{ℕ, suc, ◌+◌, ◌*◌, ◌-◌, ◌≤◌, ◌<◌}
 use native.Mathlib.Omega.{arith}
 use native.Mathlib.Numerals.{add-one}
 use lib.ListN.{length, get_or, take, drop, length-append}
 use lib.Seq.{take_at, drop_at, drop-drop}
 use Rattle.values.specs.Value.{Value, Values, nil, cons, count, encode, encodes}
-use Rattle.values.specs.Value as Value
 use Rattle.values.specs.Span.{span}
 use Rattle.values.proofs.Encoding.{span_value}
-use Rattle.evaluator_rules.specs.Outcomes.{Outcome, ◌>>=◌, pure}
 use Rattle.evaluator_rules.specs.Environment.{Environment, bind, valued}
 use Rattle.evaluator_rules.specs.Assignments.{Domains, no_more, domain, Flow, go, halt, next, each, assign}
 use Rattle.evaluator_nodes.specs.Turns.{turn_at}
-use Rattle.evaluator_operations.specs.declared.worked.Judgement.{Judgement}
-use Rattle.evaluator_operations.specs.Worked.{Told, fine, ceased, Flowed}
+use Rattle.std.proofs.Common.{Result, Ok, Err}
+use Rattle.reader_rules.specs.declared.Refusal.{Refusal}
+use Rattle.evaluator_operations.specs.declared.worked.Flow.{Flow as Pace}
+use Rattle.evaluator_operations.specs.declared.worked.Flow.TheVariants.{Go, Halt}
+use Rattle.evaluator_operations.specs.Worked.{Told, fine, Flowed}
 use Rattle.evaluator_scope.specs.Blocks.{field, Lies, Stored, in_work, Scoped, named, Pending, more, headed, head_words, block_words}
 use Rattle.evaluator_nodes.specs.Ready.{RestIn, Assigns, SoFar, AssignTold, EachTold}
 use Rattle.evaluator_operations.proofs.ToldLaws.{go_told, halt_told}
 use Rattle.evaluator_operations.proofs.OperationLaws.{narrow_head, narrow_tail}
 use Rattle.evaluator_scope.proofs.BlockLaws.{same_word, same_part, same_less, scoped_same, pending_above, head_take, head_drop, head_name, head_class, head_place, head_length}
 use Rattle.evaluator_nodes.proofs.TestLaws.{lies_more}
+use Rattle.evaluator_nodes.proofs.AssignLaws.{go_not_halt}
 
 -- whatever the members from here on tell tells of all members: with the work area work₀ and the lent words s₀ at the first, work and s here
 pub record EachLeft (doc state : List ℕ) (n m k c : ℕ) (work₀ s₀ work s : List ℕ) (at left : ℕ) : Type 0 where
-  pub each : (after s' : List ℕ) (r : Judgement) → Assigns n (m + 1) work after (EachTold doc k state work n m at left s s' r) → Assigns n (m + 1) work₀ after (EachTold doc k state work₀ n m 2 c s₀ s' r)
+  pub each : (after s' : List ℕ) (r : Result Pace Refusal) → Assigns n (m + 1) work after (EachTold doc k state work n m at left s s' r) → Assigns n (m + 1) work₀ after (EachTold doc k state work₀ n m 2 c s₀ s' r)
 
 pub left_all : (doc state : List ℕ) (n m k c : ℕ) (work s : List ℕ) → EachLeft doc state n m k c work s work s 2 c
 left_all doc state n m k c work s = record { each = λ after s' r a. a }
 
 -- no member more
-pub each_end : (doc state work : List ℕ) (n m k at c : ℕ) (u : List ℕ) (r : Judgement) → c ≡ 0 → r.number ≡ 0 → r.flag ≡ false →
-    Assigns n (m + 1) work work (EachTold doc k state work n m at c u u r)
+pub each_end : (doc state work : List ℕ) (n m k at c : ℕ) (u : List ℕ) → c ≡ 0 → Assigns n (m + 1) work work (EachTold doc k state work n m at c u u (Ok Go))
 unfolding each count
-each_end doc state work n m k at c u r e z f =
+each_end doc state work n m k at c u e =
     record { kept = refl; pends = λ ds p. p; told = λ scope sc i us ds p vs g ss hs. last i ds scope vs g ss hs }
   where
     last : (i : ℕ) (ds : Domains) (scope : Environment) (vs : Values) → RestIn work n at c vs → (ss : Values) → SoFar doc k u ss →
-        Told (Flowed (SoFar doc k u)) r (each i vs (λ scope' s'. assign ds (turn_at doc k) scope' s') scope ss)
-    last i ds scope nil g ss hs = fine {a = go ss} z (f, hs)
+        Told (Flowed (SoFar doc k u)) (Ok Go) (each i vs (λ scope' s'. assign ds (turn_at doc k) scope' s') scope ss)
+    last i ds scope nil g ss hs = fine {a = go ss} (refl, hs)
     last i ds scope (cons v vs) g ss hs = let q = g.counted in absurd (omega arith)
 
 -- a place past the block: no set has a member there
-pub each_past : (doc state work : List ℕ) (n m k at c : ℕ) (u : List ℕ) (r : Judgement) → 64 < at → Assigns n (m + 1) work work (EachTold doc k state work n m at c u u r)
+pub each_past : (doc state work : List ℕ) (n m k at c : ℕ) (u : List ℕ) (r : Result Pace Refusal) → 64 < at → Assigns n (m + 1) work work (EachTold doc k state work n m at c u u r)
 each_past doc state work n m k at c u r l =
     record { kept = refl; pends = λ ds p. p; told = λ scope sc i us ds p vs g ss hs. let q = g.short in absurd (omega arith) }
 
-module _ (doc state w0 w1 w2 : List ℕ) (n m k at c here len : ℕ) (s s1 : List ℕ) (x : Judgement) (eh : here ≡ block_words * n + (4 + at)) (el : len ≡ span (drop here w0))
+module _ (doc state w0 w1 w2 : List ℕ) (n m k at c here len : ℕ) (s s1 : List ℕ) (x : Result Pace Refusal) (eh : here ≡ block_words * n + (4 + at)) (el : len ≡ span (drop here w0))
     (e1 : w1 ≡ headed w0 n (get_or w0 (block_words * n) 0) 2 here len) (long : block_words * (n + 1) ≤ length w0) (A : Assigns (n + 1) m w1 w2 (AssignTold doc k state w1 (n + 1) m s s1 x)) (some : c ≡ 0 → ⊥) where
   above4 : drop (block_words * n + head_words) w1 ≡ drop (block_words * n + head_words) w0
   above4 = rw e1 (head_drop w0 n (get_or w0 (block_words * n) 0) 2 here len)
@@ -151,39 +151,39 @@ module _ (doc state w0 w1 w2 : List ℕ) (n m k at c here len : ℕ) (s s1 : Lis
         (subst (λ (j : ℕ). Pending w1 j m ds) (sym (add-one n)) (pending_above w0 w1 (block_words * n + head_words) above4 (suc n) m (omega arith) p)) ss hs
 
   -- it stops, or ends all assignments
-  each_stop : (x.number ≡ 0 → ⊥) → EachTold doc k state w0 n m at c s s1 x
+  each_stop : (f : Refusal) → x ≡ Err f → EachTold doc k state w0 n m at c s s1 (Err f)
   unfolding each count
-  each_stop z scope sc i us ds p nil g ss hs = absurd (some (sym g.counted))
-  each_stop z scope sc i us ds p (cons v vs) g ss hs = halt_told _ (next_told v vs g scope sc i us ds p ss hs) z
+  each_stop f z scope sc i us ds p nil g ss hs = absurd (some (sym g.counted))
+  each_stop f z scope sc i us ds p (cons v vs) g ss hs = halt_told _ (rw z at (next_told v vs g scope sc i us ds p ss hs))
 
-  each_halt : x.number ≡ 0 → x.flag ≡ true → EachTold doc k state w0 n m at c s s1 x
+  each_halt : x ≡ Ok Halt → EachTold doc k state w0 n m at c s s1 (Ok Halt)
   unfolding each next count
-  each_halt z f scope sc i us ds p nil g ss hs = absurd (some (sym g.counted))
-  each_halt z f scope sc i us ds p (cons v vs) g ss hs = go_told (next_told v vs g scope sc i us ds p ss hs) z (λ w j. ended w j)
+  each_halt z scope sc i us ds p nil g ss hs = absurd (some (sym g.counted))
+  each_halt z scope sc i us ds p (cons v vs) g ss hs = go_told (rw z at (next_told v vs g scope sc i us ds p ss hs)) (λ w j. ended w j)
     where
-      ended : (w : Flow) → Flowed (SoFar doc k s1) x w → Told (Flowed (SoFar doc k s1)) x (next (λ s'. each i vs (λ scope' s''. assign ds (turn_at doc k) scope' s'') scope s') w)
-      ended (go us) j = absurd (true≢false (sym f ∙ j.0))
-      ended halt j = fine {a = halt} z f
+      ended : (w : Flow) → Flowed (SoFar doc k s1) Halt w → Told (Flowed (SoFar doc k s1)) (Ok Halt) (next (λ s'. each i vs (λ scope' s''. assign ds (turn_at doc k) scope' s'') scope s') w)
+      ended (go us) j = absurd (go_not_halt (sym j.0))
+      ended halt j = fine {a = halt} refl
 
-  each_go : {s2 : List ℕ} {r : Judgement} → x.number ≡ 0 → x.flag ≡ false → EachTold doc k state w2 n m (at + len) (c - 1) s1 s2 r → EachTold doc k state w0 n m at c s s2 r
+  each_go : {s2 : List ℕ} {r : Result Pace Refusal} → x ≡ Ok Go → EachTold doc k state w2 n m (at + len) (c - 1) s1 s2 r → EachTold doc k state w0 n m at c s s2 r
   unfolding each next count
-  each_go z f more' scope sc i us ds p nil g ss hs = absurd (some (sym g.counted))
-  each_go {s2} {r} z f more' scope sc i us ds p (cons v vs) g ss hs = go_told (next_told v vs g scope sc i us ds p ss hs) z (λ w j. onward w j)
+  each_go z more' scope sc i us ds p nil g ss hs = absurd (some (sym g.counted))
+  each_go {s2} {r} z more' scope sc i us ds p (cons v vs) g ss hs = go_told (rw z at (next_told v vs g scope sc i us ds p ss hs)) (λ w j. onward w j)
     where
-      onward : (w : Flow) → Flowed (SoFar doc k s1) x w → Told (Flowed (SoFar doc k s2)) r (next (λ s'. each i vs (λ scope' s''. assign ds (turn_at doc k) scope' s'') scope s') w)
+      onward : (w : Flow) → Flowed (SoFar doc k s1) Go w → Told (Flowed (SoFar doc k s2)) r (next (λ s'. each i vs (λ scope' s''. assign ds (turn_at doc k) scope' s'') scope s') w)
       onward (go us') j =
           more' scope (scoped_same state w0 w2 n each_kept sc) i us ds
           (subst (λ (q : ℕ). Pending w2 n q (domain i us ds)) (add-one m) (each_pends (domain i us ds) (subst (λ (q : ℕ). Pending w0 n q (domain i us ds)) (sym (add-one m)) p)))
           vs (next_rest v vs g) us' j.1
-      onward halt j = absurd (true≢false (sym j ∙ f))
+      onward halt j = absurd (go_not_halt j)
 
   -- with the members before
   module _ (c₀ : ℕ) (work₀ s₀ : List ℕ) (h : EachLeft doc state n m k c₀ work₀ s₀ w0 s at c) where
-    pub left_stop : (x.number ≡ 0 → ⊥) → Assigns n (m + 1) work₀ w2 (EachTold doc k state work₀ n m 2 c₀ s₀ s1 x)
-    left_stop z = h.each w2 s1 x (record { kept = each_kept; pends = each_pends; told = each_stop z })
+    pub left_stop : (f : Refusal) → x ≡ Err f → Assigns n (m + 1) work₀ w2 (EachTold doc k state work₀ n m 2 c₀ s₀ s1 (Err f))
+    left_stop f z = h.each w2 s1 (Err f) (record { kept = each_kept; pends = each_pends; told = each_stop f z })
 
-    pub left_halt : x.number ≡ 0 → x.flag ≡ true → Assigns n (m + 1) work₀ w2 (EachTold doc k state work₀ n m 2 c₀ s₀ s1 x)
-    left_halt z f = h.each w2 s1 x (record { kept = each_kept; pends = each_pends; told = each_halt z f })
+    pub left_halt : x ≡ Ok Halt → Assigns n (m + 1) work₀ w2 (EachTold doc k state work₀ n m 2 c₀ s₀ s1 (Ok Halt))
+    left_halt z = h.each w2 s1 (Ok Halt) (record { kept = each_kept; pends = each_pends; told = each_halt z })
 
-    pub left_more : x.number ≡ 0 → x.flag ≡ false → EachLeft doc state n m k c₀ work₀ s₀ w2 s1 (at + len) (c - 1)
-    left_more z f = record { each = λ after s' r e. h.each after s' r (record { kept = e.kept ∙ each_kept; pends = λ ds p. e.pends ds (each_pends ds p); told = each_go z f e.told }) }
+    pub left_more : x ≡ Ok Go → EachLeft doc state n m k c₀ work₀ s₀ w2 s1 (at + len) (c - 1)
+    left_more z = record { each = λ after s' r e. h.each after s' r (record { kept = e.kept ∙ each_kept; pends = λ ds p. e.pends ds (each_pends ds p); told = each_go z e.told }) }

@@ -2,7 +2,7 @@
 use mathlib.Core.Path.{◌≡◌, refl, sym, ap, subst, ◌∙◌}
 use mathlib.Core.Bool.{Bool, true, false, true≢false}
 use mathlib.Core.List.{List}
-use Prim.Native.Nat.{ℕ, ◌≤◌, ◌<◌}
+use Prim.Native.Nat.{ℕ, ◌≤◌}
 use native.Mathlib.Omega.{arith}
 use lib.IntN.{pos}
 use lib.ListN.{get_or}
@@ -16,13 +16,13 @@ use Rattle.reader_rules.specs.Tree as Tree
 use Rattle.reader_rules.specs.Decode.{unlisted, makers, expr_at, pred_at}
 use Rattle.reader_rules.proofs.TreeShape.{AllFrom, all_at, ◌▹◌, sub, as_made}
 use Rattle.reader_rules.proofs.TreeExpr.{expr_range, expr_number, expr_node_lem}
-use Rattle.reader_rules.proofs.TreePred.{pred_range, pred_truth}
-use Rattle.evaluator_rules.specs.Outcomes.{Outcome, pure, stop}
+use Rattle.reader_rules.proofs.TreePred.{pred_truth}
+use Rattle.evaluator_rules.specs.Outcomes.{stop}
 use Rattle.evaluator_rules.specs.Environment.{Environment}
 use Rattle.evaluator_rules.specs.Rules.{eval_expr, eval_pred}
-use Rattle.values.specs.declared.held.Held.{Held}
-use Rattle.evaluator_operations.specs.declared.worked.Judgement.{Judgement}
-use Rattle.evaluator_operations.specs.Worked.{Told, fine, Valued, Judged, Stops}
+use Rattle.std.proofs.Common.{Ok, Err}
+use Rattle.reader_rules.specs.declared.Refusal.{Refusal}
+use Rattle.evaluator_operations.specs.Worked.{Holds, Told, fine, Judged, Stops}
 use Rattle.evaluator_operations.proofs.ToldLaws.{stop_told}
 use Rattle.evaluator_operations.proofs.OperationLaws.{keep_told}
 
@@ -85,18 +85,18 @@ unrun_kind doc k h u =
         ▹ (λ n. absurd (n.i (omega arith) (omega arith))) ▹ (λ n. absurd (n.i (omega arith) (omega arith))) ▹ (λ n. absurd (n.i (omega arith) (omega arith)))
         ▹ (λ n. absurd (n.i (omega arith) (omega arith))) ▹ (λ n. absurd (n.i (omega arith) (omega arith))) ▹ (λ n. absurd (n.h refl)) ▹ tt
 
-pub unrun_told : (doc : List ℕ) (k : ℕ) → At doc expressions k → Unrun (kind_at doc k) → (scope : Environment) {hr : Held} {r : Judgement} → Stops r 54 k → Told (Valued hr) r (eval_expr (expr_at doc k) scope)
-unrun_told doc k h u scope {hr} {r} s =
-    subst (Told (Valued hr) r) (sym (not_run_lem (expr_at doc k) (unrun_kind doc k h u) scope ∙ ap (stop 54) (expr_node_lem doc k h))) (stop_told s (λ z. omega arith))
+pub unrun_told : (doc : List ℕ) (k : ℕ) → At doc expressions k → Unrun (kind_at doc k) → (scope : Environment) {f : Refusal} → Stops f 54 k → Told Holds (Err f) (eval_expr (expr_at doc k) scope)
+unrun_told doc k h u scope {f} s =
+    subst (Told Holds (Err f)) (sym (not_run_lem (expr_at doc k) (unrun_kind doc k h u) scope ∙ ap (stop 54) (expr_node_lem doc k h))) (stop_told s (λ z. omega arith))
 
-pub number_told : (doc : List ℕ) (k : ℕ) → At doc expressions k → kind_at doc k ≡ 31 → (z : ℕ) → z ≡ operand_at doc k 1 → (scope : Environment) {R : Judgement → Value → Type 0} {r : Judgement} → R r (int (pos z)) → r.number ≡ 0 →
-    Told R r (eval_expr (expr_at doc k) scope)
+pub number_told : (doc : List ℕ) (k : ℕ) → At doc expressions k → kind_at doc k ≡ 31 → (z : ℕ) → z ≡ operand_at doc k 1 → (scope : Environment) {C : Type 0} {R : C → Value → Type 0} {b : C} → R b (int (pos z)) →
+    Told R (Ok b) (eval_expr (expr_at doc k) scope)
 unfolding eval_expr encode
-number_told doc k h q z x scope v n = rw (expr_number doc k h q, ← x) (keep_told k _ _ n (omega arith) v)
+number_told doc k h q z x scope v = rw (expr_number doc k h q, ← x) (keep_told k _ (omega arith) v)
 
-pub truth_told : (doc : List ℕ) (k : ℕ) → At doc predicates k → kind_at doc k ≡ 20 → (scope : Environment) {r : Judgement} → r.number ≡ 0 → r.flag ≡ true → Told Judged r (eval_pred (pred_at doc k) scope)
+pub truth_told : (doc : List ℕ) (k : ℕ) → At doc predicates k → kind_at doc k ≡ 20 → (scope : Environment) → Told Judged (Ok true) (eval_pred (pred_at doc k) scope)
 unfolding eval_pred
-truth_told doc k h q scope n f = rw (pred_truth doc k h q) (fine n (record { flag = f }))
+truth_told doc k h q scope = rw (pred_truth doc k h q) (fine refl)
 
 pub from_25 : (q : ℕ) → 21 ≤ q → (q ≡ 21 → ⊥) → (q ≡ 22 → ⊥) → (q ≡ 23 → ⊥) → (q ≡ 24 → ⊥) → 25 ≤ q
 from_25 q l a b c d = omega arith

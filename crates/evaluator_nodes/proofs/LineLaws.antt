@@ -1,38 +1,36 @@
 -- The lines of a Text, one after the other: their sets go to blocks above those in scope.
 use mathlib.Core.Path.{◌≡◌, refl, sym, ap, subst, ◌∙◌}
-use mathlib.Core.Bool.{Bool, true, false}
-use mathlib.Core.List.{List, [], ◌∷◌, ◌++◌}
+use mathlib.Core.List.{List, [], ◌∷◌}
 use Prim.Native.Nat.{ℕ, zero, suc, ◌+◌, ◌*◌, ◌-◌, ◌≤◌, ◌<◌}
 use native.Mathlib.Omega.{arith}
-use native.Mathlib.Nat.{add_assoc}
 use lib.ListN.{length, get_or, take, drop, length-drop}
 use Rattle.layout.specs.Layout.{part}
 use Rattle.values.specs.Value.{Value, Values, nil}
-use Rattle.values.specs.Value as Value
 use Rattle.values.specs.declared.held.Held.{Held}
 use Rattle.reader_rules.specs.Kinds.{cell, expressions, texts, lines}
 use Rattle.reader_rules.proofs.TreeCounts.{at_least}
-use Rattle.reader_rules.specs.Limits.{depth}
 use Rattle.reader_rules.specs.Limited.{declared_count}
 use Rattle.reader_rules.specs.Nodes.{kind_at, operand_at}
 use Rattle.reader_rules.specs.Promise.{At, Lower}
-use Rattle.reader_rules.specs.Tree.{Expr, Lines, end, declaration, inclusion, include}
-use Rattle.reader_rules.specs.Decode.{expr_at, include_at, line_at, lines_from}
+use Rattle.reader_rules.specs.Tree.{Lines, declaration}
+use Rattle.reader_rules.specs.Decode.{expr_at, lines_from}
 use Rattle.reader_rules.proofs.DepthLaws.{deeper}
 use Rattle.reader_rules.proofs.TreeText.{text_kind, text_law, line_range, line_declaration, line_inclusion, include_law}
 use Rattle.reader_rules.proofs.TreeLists.{lines_go, lines_end_lem}
-use Rattle.evaluator_rules.specs.Outcomes.{Event, Outcome, done, stopped, ◌>>=◌, pure, stop, after}
+use Rattle.evaluator_rules.specs.Outcomes.{Event, Outcome, done, stopped, ◌>>=◌, pure, after}
 use Rattle.evaluator_rules.specs.Environment.{Environment}
 use Rattle.evaluator_rules.specs.Operations.{as_set}
-use Rattle.evaluator_rules.specs.Assignments.{Domains, no_more, domain, domains, Flow, assign}
+use Rattle.evaluator_rules.specs.Assignments.{Domains, no_more, domain, domains, assign}
 use Rattle.evaluator_rules.specs.Rules.{eval_expr, eval_lines, stop_include}
 use Rattle.evaluator_nodes.specs.Turns.{turn_at}
-use Rattle.evaluator_operations.specs.declared.worked.Judgement.{Judgement}
-use Rattle.evaluator_operations.specs.Worked.{Holds, Told, fine, ceased, Valued, Flowed, Stops}
+use Rattle.std.proofs.Common.{Result, Ok, Err}
+use Rattle.reader_rules.specs.declared.Refusal.{Refusal}
+use Rattle.evaluator_operations.specs.declared.worked.Flow.{Flow as Pace}
+use Rattle.evaluator_operations.specs.Worked.{Holds, Told, fine, ceased, Flowed, Stops}
 use Rattle.evaluator_scope.specs.Blocks.{field, Scoped, hidden, Pending, more, Pushed, Leaves, block_words}
 use Rattle.evaluator_scope.specs.Blocks as Blocks
 use Rattle.evaluator_nodes.specs.Ready.{Ready, Scoping, Assigns, SoFar, AssignTold, LinesTold, join_domains, lines_then}
-use Rattle.evaluator_operations.proofs.ToldLaws.{after_told, stop_told, go_told, halt_told, at_pure, at_stop}
+use Rattle.evaluator_operations.proofs.ToldLaws.{after_told, go_told, halt_told, at_pure, at_stop}
 use Rattle.evaluator_operations.proofs.OperationLaws.{held_tag, tag_set, tag_none}
 use Rattle.evaluator_scope.proofs.BlockLaws.{same_less, scoped_same, pending_same}
 
@@ -71,24 +69,27 @@ hide_more state w n (suc j) {scope} sc h =
     subst (λ (x : ℕ). Scoped state w x scope) z (hidden (hide_more state w n j sc (λ i p q. h i p (omega arith))) (h (n + j) (omega arith) (omega arith)))
 
 -- ---- outcomes one after the other
-told_after : {A : Type 0} {R : Judgement → A → Type 0} {r : Judgement} (t : List Event) (o : Outcome A) → Told R r (after t o) → Told R r o
+told_after : {D A : Type 0} {R : D → A → Type 0} {r : Result D Refusal} (t : List Event) (o : Outcome A) → Told R r (after t o) → Told R r o
 unfolding after
-told_after t (done u a) (fine z h) = fine z h
+told_after t (done u a) (fine h) = fine h
 told_after t (stopped u n k) (ceased a b c) = ceased a b c
 
-assoc_told : {A B C : Type 0} {R : Judgement → C → Type 0} {r : Judgement} (o : Outcome A) (f : A → Outcome B) (g : B → Outcome C) → Told R r (o >>= λ a. f a >>= g) → Told R r (o >>= f >>= g)
+stopped_after : {D C : Type 0} {R : D → C → Type 0} {r : Result D Refusal} {t u : List Event} {n k : ℕ} → Told R r (stopped t n k) → Told R r (stopped u n k)
+stopped_after (ceased x y z) = ceased x y z
+
+assoc_told : {D A B C : Type 0} {R : D → C → Type 0} {r : Result D Refusal} (o : Outcome A) (f : A → Outcome B) (g : B → Outcome C) → Told R r (o >>= λ a. f a >>= g) → Told R r (o >>= f >>= g)
 unfolding ◌>>=◌ after
-assoc_told {A} {B} {C} {R} {r} (done t a) f g h = go (f a) (told_after t (f a >>= g) h)
+assoc_told {A = A} {B = B} {R = R} {r = r} (done t a) f g h = go (f a) (told_after t (f a >>= g) h)
   where
     go : (p : Outcome B) → Told R r (p >>= g) → Told R r (after t p >>= g)
     go (done u b) q = after_told _ (told_after u (g b) q)
-    go (stopped u n k) (ceased x y z) = ceased x y z
+    go (stopped u n k) q = stopped_after q
 assoc_told (stopped t n k) f g (ceased x y z) = ceased x y z
 
-stopped_same : {G : Values → Type 0} {r : Judgement} {t : List Event} {f w : ℕ} → Told (Flowed G) r (stopped t f w) → Told (Flowed G) r (stopped t f w)
+stopped_same : {G : Values → Type 0} {r : Result Pace Refusal} {t : List Event} {f w : ℕ} → Told (Flowed G) r (stopped t f w) → Told (Flowed G) r (stopped t f w)
 stopped_same h = h
 
-join_told : (doc : List ℕ) (k : ℕ) (scope : Environment) (ds : Domains) (ids : List ℕ) (us : Values) {G : Values → Type 0} {r : Judgement} (o : Outcome Domains) →
+join_told : (doc : List ℕ) (k : ℕ) (scope : Environment) (ds : Domains) (ids : List ℕ) (us : Values) {G : Values → Type 0} {r : Result Pace Refusal} (o : Outcome Domains) →
     Told (Flowed G) r (o >>= λ es. assign (join_domains (join_domains ds (domains ids us no_more)) es) (turn_at doc k) scope nil) →
     Told (Flowed G) r (o >>= (λ es. pure (domains ids us es)) >>= λ es. assign (join_domains ds es) (turn_at doc k) scope nil)
 unfolding ◌>>=◌
@@ -99,7 +100,7 @@ join_told doc k scope ds ids us (stopped t f w) h = stopped_same h
 
 -- ---- the lines from i on, before e
 module _ (doc : List ℕ) (k t e i : ℕ) (state work : List ℕ) (n m : ℕ) (before' last : List ℕ) where
-  pub lines_done : (after' : List ℕ) (r : Judgement) → e ≤ i → Assigns n m work after' (AssignTold doc k state work n m before' last r) →
+  pub lines_done : (after' : List ℕ) (r : Result Pace Refusal) → e ≤ i → Assigns n m work after' (AssignTold doc k state work n m before' last r) →
       Leaves n work after' (LinesTold doc k (lines_from doc t i (e - i)) state work n m before' last r)
   unfolding lines_then eval_lines
   lines_done after' r l a =
@@ -110,7 +111,7 @@ module _ (doc : List ℕ) (k t e i : ℕ) (state work : List ℕ) (n m : ℕ) (b
       }
 
   module _ (l : i < e) (v : ℕ) (x : v ≡ operand_at doc t i) (h : At doc lines v) where
-    pub include_told : kind_at doc v ≡ 12 → (r : Judgement) → Stops r 54 v → LinesTold doc k (lines_from doc t i (e - i)) state work n m before' last r
+    pub include_told : kind_at doc v ≡ 12 → (f : Refusal) → Stops f 54 v → LinesTold doc k (lines_from doc t i (e - i)) state work n m before' last (Err f)
     unfolding lines_then eval_lines stop_include
     include_told q r s scope sc sm ds p gs =
         rw (lines_go doc t e i l, ← x, line_inclusion doc v q (lines_from doc t (i + 1) (e - (i + 1))), (include_law doc lines v h q (operand_at doc v 3) refl).tree) (at_stop _ s (λ z. omega arith))
@@ -130,25 +131,25 @@ module _ (doc : List ℕ) (k t e i : ℕ) (state work : List ℕ) (n m : ℕ) (b
       decl_count = rw (decl_tree (operand_at doc v 1) refl) (ap (λ (j : ℕ). j + declared_count (lines_from doc t (i + 1) (e - (i + 1)))) (length-drop 2 (part doc v)))
 
       module _ (a : ℕ) (y : a ≡ operand_at doc v 1) where
-        pub decl_stop : {hr : Held} (r : Judgement) → ((scope : Environment) → Scoped state work (n + m) scope → Told (Valued hr) r (eval_expr (expr_at doc a) scope)) → (r.number ≡ 0 → ⊥) →
-            LinesTold doc k (lines_from doc t i (e - i)) state work n m before' last r
+        pub decl_stop : {f : Refusal} → ((scope : Environment) → Scoped state work (n + m) scope → Told Holds (Err f) (eval_expr (expr_at doc a) scope)) →
+            LinesTold doc k (lines_from doc t i (e - i)) state work n m before' last (Err f)
         unfolding lines_then eval_lines
-        decl_stop r g z scope sc sm ds p gs = rw (decl_tree a y) (assoc_told _ _ _ (halt_told _ (g scope sm) z))
+        decl_stop g scope sc sm ds p gs = rw (decl_tree a y) (assoc_told _ _ _ (halt_told _ (g scope sm)))
 
-        pub decl_other : {hx' : Held} (x' r : Judgement) → ((scope : Environment) → Scoped state work (n + m) scope → Told (Valued hx') x' (eval_expr (expr_at doc a) scope)) → x'.number ≡ 0 →
-            (get_or hx'.words 0 0 ≡ 3 → ⊥) → Stops r 51 v → LinesTold doc k (lines_from doc t i (e - i)) state work n m before' last r
+        pub decl_other : {hx' : Held} (f : Refusal) → ((scope : Environment) → Scoped state work (n + m) scope → Told Holds (Ok hx') (eval_expr (expr_at doc a) scope)) →
+            (get_or hx'.words 0 0 ≡ 3 → ⊥) → Stops f 51 v → LinesTold doc k (lines_from doc t i (e - i)) state work n m before' last (Err f)
         unfolding lines_then eval_lines
-        decl_other x' r g z b s scope sc sm ds p gs =
-            rw (decl_tree a y) (assoc_told _ _ _ (go_told (g scope sm) z (λ u j. assoc_told _ _ _ (rw (tag_none v u (λ w. b (held_tag _ u j.held ∙ w))) (at_stop _ s (λ w. omega arith))))))
+        decl_other f g b s scope sc sm ds p gs =
+            rw (decl_tree a y) (assoc_told _ _ _ (go_told (g scope sm) (λ u j. assoc_told _ _ _ (rw (tag_none v u (λ w. b (held_tag _ u j ∙ w))) (at_stop _ s (λ w. omega arith))))))
 
-        pub decl_go : (w1 w2 : List ℕ) {hx' : Held} (x' r : Judgement) → ((scope : Environment) → Scoped state work (n + m) scope → Told (Valued hx') x' (eval_expr (expr_at doc a) scope)) → x'.number ≡ 0 →
+        pub decl_go : (w1 w2 : List ℕ) {hx' : Held} (r : Result Pace Refusal) → ((scope : Environment) → Scoped state work (n + m) scope → Told Holds (Ok hx') (eval_expr (expr_at doc a) scope)) →
             get_or hx'.words 0 0 ≡ 3 → take (block_words * (n + m)) w1 ≡ take (block_words * (n + m)) work →
             Pushed w1 w2 (n + m) (length (part doc v) - 2) ((us : Values) → Holds hx' (Value.set us) → Pending w2 (n + m) (length (part doc v) - 2) (domains (drop 2 (part doc v)) us no_more)) →
             LinesTold doc k (lines_from doc t (i + 1) (e - (i + 1))) state w2 n (m + (length (part doc v) - 2)) before' last r →
             LinesTold doc k (lines_from doc t i (e - i)) state work n m before' last r
         unfolding lines_then eval_lines as_set
-        decl_go w1 w2 {hx'} x' r g z b kept pushed more' scope sc sm ds p gs =
-            rw (decl_tree a y) (assoc_told _ _ _ (go_told (g scope sm) z (λ u j. assoc_told _ _ _ (member u j.held))))
+        decl_go w1 w2 {hx'} r g b kept pushed more' scope sc sm ds p gs =
+            rw (decl_tree a y) (assoc_told _ _ _ (go_told (g scope sm) (λ u j. assoc_told _ _ _ (member u j))))
           where
             ls : Lines
             ls = lines_from doc t (i + 1) (e - (i + 1))

@@ -1,45 +1,42 @@
 -- The evaluation rules over nodes: what each kind's function makes of its operands.
 use mathlib.Core.Path.{◌≡◌, refl, sym, ap, subst, ◌∙◌}
 use mathlib.Core.Bool.{Bool, true, false, not, ◌&&◌}
-use mathlib.Core.Logic.{⊎_elim}
 use mathlib.Core.List.{List, [], ◌∷◌, ◌++◌, append_assoc, append-nil}
 use Prim.Native.Nat.{ℕ, zero, suc, ◌+◌, ◌*◌, ◌-◌, ◌≤◌, ◌<◌}
 use native.Mathlib.Omega.{arith}
-use native.Mathlib.Nat.{eq-or-lt_of_le}
 use lib.Dec.{leb}
 use Rattle.words.proofs.Loops.{and_left, and_right}
-use lib.ListN.{length, get_or, take, drop}
+use lib.ListN.{length, get_or}
 use borrow.Author.Tests.{leb-true}
-use Rattle.layout.specs.Layout.{count, part}
+use Rattle.layout.specs.Layout.{part}
 use Rattle.values.specs.Value.{Value, Values, nil, cons, encode, encodes}
 use Rattle.values.specs.Value as Value
 use Rattle.values.specs.Held.{keep as words}
 use Rattle.values.specs.declared.held.Held.{Held}
-use Rattle.reader_rules.specs.Kinds.{cell, table, columns, expressions, predicates, texts}
-use Rattle.reader_rules.specs.Limits.{depth}
+use Rattle.reader_rules.specs.Kinds.{cell, table, columns, expressions, predicates}
 use Rattle.reader_rules.specs.Nodes.{kind_at, operand_at}
 use Rattle.reader_rules.specs.Promise.{At, Lower}
 use Rattle.reader_rules.specs.Tree.{Exprs, reference, connected, Connective, and, or, implies}
 use Rattle.values.specs.SetValues.{same_value}
-use Rattle.evaluator_operations.specs.declared.logic.Decision.TheVariants.{Known, Right}
-use Rattle.reader_rules.specs.Tree as Tree
-use Rattle.reader_rules.specs.Decode.{expr_at, pred_at, text_at, exprs_from, operator_of, connective_of, quantifier_of, members_of, relation_of}
+use Rattle.reader_rules.specs.Decode.{expr_at, pred_at, exprs_from, connective_of, members_of, relation_of}
 use Rattle.reader_rules.proofs.DepthLaws.{deeper}
 use Rattle.reader_rules.proofs.TreeCounts.{at_least, at_most}
-use Rattle.reader_rules.proofs.TreeExpr.{expr_range, expr_reference, expr_number, expr_integers, expr_members, expr_power, expr_application, expr_selection, expr_theta, expr_schema_set, expr_arithmetic, expr_comprehension}
-use Rattle.reader_rules.proofs.TreePred.{pred_range, pred_truth, pred_relation, pred_not, pred_connected, pred_quantified}
-use Rattle.reader_rules.proofs.TreeLists.{exprs_go, exprs_end, exprs_length_lem}
+use Rattle.reader_rules.proofs.TreeExpr.{expr_reference, expr_members, expr_power, expr_application, expr_arithmetic}
+use Rattle.reader_rules.proofs.TreePred.{pred_relation, pred_not, pred_connected}
+use Rattle.reader_rules.proofs.TreeLists.{exprs_go, exprs_end}
 use Rattle.evaluator_rules.specs.Outcomes.{Outcome, ◌>>=◌, pure, stop, keep}
 use Rattle.evaluator_rules.specs.Outcomes as Outcomes
 use Rattle.evaluator_rules.specs.Environment.{Environment, lookup, refer, has_actuals}
 use Rattle.evaluator_rules.specs.Operations.{add, connect}
 use Rattle.evaluator_rules.specs.Rules.{eval_expr, eval_exprs, eval_members, eval_pred, test}
 use Rattle.evaluator_operations.specs.Steps.{arithmetic_of, at_most_of, image_of, decision_of}
-use Rattle.evaluator_operations.specs.declared.worked.Judgement.{Judgement}
-use Rattle.evaluator_operations.specs.Worked.{narrow, all_narrow, Holds, Told, fine, ceased, Valued, Judged, SetIn, Grown, Joined}
+use Rattle.std.proofs.Common.{Some, None, Result, Ok, Err}
+use Rattle.reader_rules.specs.declared.Refusal.{Refusal}
+use Rattle.evaluator_operations.specs.Worked.{narrow, Holds, Told, fine, ceased, Judged, SetIn, Grown, Joined}
 use Rattle.evaluator_nodes.specs.Ready.{Ready, Handed, Operands}
-use Rattle.evaluator_operations.proofs.ToldLaws.{stop_told, go_told, halt_told, at_pure}
+use Rattle.evaluator_operations.proofs.ToldLaws.{go_told, halt_told, at_pure}
 use Rattle.evaluator_operations.proofs.OperationLaws.{keep_fine, narrow_cons}
+use Rattle.evaluator_operations.proofs.EnumerationLaws.{some_not_none}
 
 abbrev all_below : ℕ → List ℕ → Bool
 all_below m [] = true
@@ -70,53 +67,53 @@ few_words doc s k h = omega (arith, at_most doc s k h, small_rows (kind_at doc k
 
 -- ---- expressions one after the other
 -- one stops, whatever is to be told of their values
-pub exprs_stop : {R : Judgement → Values → Type 0} (doc : List ℕ) (k e i : ℕ) (scope : Environment) {hr : Held} {r : Judgement} (a : ℕ) → a ≡ operand_at doc k i → i < e → Told (Valued hr) r (eval_expr (expr_at doc a) scope) → (r.number ≡ 0 → ⊥) →
-    Told R r (eval_exprs (exprs_from doc k i (e - i)) scope)
+pub exprs_stop : {C : Type 0} {R : C → Values → Type 0} (doc : List ℕ) (k e i : ℕ) (scope : Environment) {f : Refusal} (a : ℕ) → a ≡ operand_at doc k i → i < e → Told Holds (Err f) (eval_expr (expr_at doc a) scope) →
+    Told R (Err f) (eval_exprs (exprs_from doc k i (e - i)) scope)
 unfolding eval_exprs
-exprs_stop doc k e i scope a x h t z = rw (exprs_go doc k e i h, ← x) (halt_told _ t z)
+exprs_stop doc k e i scope a x h t = rw (exprs_go doc k e i h, ← x) (halt_told _ t)
 
 module _ (doc : List ℕ) (k e i : ℕ) (scope : Environment) (ws : List ℕ) where
-  pub parts_end : {hr : Held} {r : Judgement} {s : Held} → e ≤ i → r.number ≡ 0 → hr ≡ s → s ≡ words ws → Told (Joined ws (e - i) hr) r (eval_exprs (exprs_from doc k i (e - i)) scope)
+  pub parts_end : {s : Held} → e ≤ i → s ≡ words ws → Told (Joined ws (e - i)) (Ok s) (eval_exprs (exprs_from doc k i (e - i)) scope)
   unfolding eval_exprs narrow Value.count encodes
-  parts_end h z a b =
+  parts_end h b =
       let m : 0 ≡ e - i = omega arith in
-      rw (exprs_end doc k e i h) (fine z (record { counted = m; words = a ∙ b ∙ ap words (sym (append-nil ws)); narrow = refl }))
+      rw (exprs_end doc k e i h) (fine (record { counted = m; words = b ∙ ap words (sym (append-nil ws)); narrow = refl }))
 
-  more_joined : {hr : Held} {r : Judgement} (v : Value) {o : Outcome Values} → narrow v ≡ true → i < e → Told (Joined (ws ++ encode v) (e - (i + 1)) hr) r o → Told (Joined ws (e - i) hr) r (o >>= λ vs. pure (cons v vs))
+  more_joined : {r : Result Held Refusal} (v : Value) {o : Outcome Values} → narrow v ≡ true → i < e → Told (Joined (ws ++ encode v) (e - (i + 1))) r o → Told (Joined ws (e - i)) r (o >>= λ vs. pure (cons v vs))
   unfolding ◌>>=◌ Outcomes.after encodes Value.count
-  more_joined v n h (fine {a = a} z j) =
+  more_joined v n h (fine {a = a} j) =
       let m = j.counted in
-      fine {a = cons v a} z (record { counted = omega arith; words = j.words ∙ ap words (append_assoc ws (encode v) (encodes a)); narrow = narrow_cons v a n j.narrow })
+      fine {a = cons v a} (record { counted = omega arith; words = j.words ∙ ap words (append_assoc ws (encode v) (encodes a)); narrow = narrow_cons v a n j.narrow })
   more_joined v n h (ceased a b c) = ceased a b c
 
-  pub parts_go : {hx hr : Held} {x r : Judgement} (a : ℕ) → a ≡ operand_at doc k i → i < e → Told (Valued hx) x (eval_expr (expr_at doc a) scope) → x.number ≡ 0 →
-      ((v : Value) → Holds hx v → Told (Joined (ws ++ encode v) (e - (i + 1)) hr) r (eval_exprs (exprs_from doc k (i + 1) (e - (i + 1))) scope)) →
-      Told (Joined ws (e - i) hr) r (eval_exprs (exprs_from doc k i (e - i)) scope)
+  pub parts_go : {hx : Held} {r : Result Held Refusal} (a : ℕ) → a ≡ operand_at doc k i → i < e → Told Holds (Ok hx) (eval_expr (expr_at doc a) scope) →
+      ((v : Value) → Holds hx v → Told (Joined (ws ++ encode v) (e - (i + 1))) r (eval_exprs (exprs_from doc k (i + 1) (e - (i + 1))) scope)) →
+      Told (Joined ws (e - i)) r (eval_exprs (exprs_from doc k i (e - i)) scope)
   unfolding eval_exprs
-  parts_go a x h t z g = rw (exprs_go doc k e i h, ← x) (go_told t z (λ v j. more_joined v j.held.narrow h (g v j.held)))
+  parts_go a x h t g = rw (exprs_go doc k e i h, ← x) (go_told t (λ v j. more_joined v j.narrow h (g v j)))
 
 -- ---- members, each added as it is worked out
 module _ (doc : List ℕ) (k e i : ℕ) (scope : Environment) (vs : Values) where
-  pub adds_end : {u : List ℕ} {r : Judgement} → e ≤ i → r.number ≡ 0 → r.flag ≡ false → SetIn u vs → Told (Grown u) r (eval_members (exprs_from doc k i (e - i)) k scope vs)
+  pub adds_end : {u : List ℕ} {d : Unit {0}} → e ≤ i → SetIn u vs → Told (Grown u) (Ok d) (eval_members (exprs_from doc k i (e - i)) k scope vs)
   unfolding eval_members
-  adds_end h z f g = rw (exprs_end doc k e i h) (fine z (record { gathers = g; flag = f }))
+  adds_end h g = rw (exprs_end doc k e i h) (fine g)
 
-  pub adds_stop : {u : List ℕ} {hr : Held} {r : Judgement} (a : ℕ) → a ≡ operand_at doc k i → i < e → Told (Valued hr) r (eval_expr (expr_at doc a) scope) → (r.number ≡ 0 → ⊥) →
-      Told (Grown u) r (eval_members (exprs_from doc k i (e - i)) k scope vs)
+  pub adds_stop : {u : List ℕ} {f : Refusal} (a : ℕ) → a ≡ operand_at doc k i → i < e → Told Holds (Err f) (eval_expr (expr_at doc a) scope) →
+      Told (Grown u) (Err f) (eval_members (exprs_from doc k i (e - i)) k scope vs)
   unfolding eval_members
-  adds_stop a x h t z = rw (exprs_go doc k e i h, ← x) (halt_told _ t z)
+  adds_stop a x h t = rw (exprs_go doc k e i h, ← x) (halt_told _ t)
 
-  pub adds_over : {u : List ℕ} {hx : Held} {x r : Judgement} (a : ℕ) → a ≡ operand_at doc k i → i < e → Told (Valued hx) x (eval_expr (expr_at doc a) scope) → x.number ≡ 0 →
-      ((v : Value) → Holds hx v → Told (Grown u) r (add k v vs)) → (r.number ≡ 0 → ⊥) → Told (Grown u) r (eval_members (exprs_from doc k i (e - i)) k scope vs)
+  pub adds_over : {u u' : List ℕ} {hx : Held} {f : Refusal} (a : ℕ) → a ≡ operand_at doc k i → i < e → Told Holds (Ok hx) (eval_expr (expr_at doc a) scope) →
+      ((v : Value) → Holds hx v → Told (Grown u') (Err f) (add k v vs)) → Told (Grown u) (Err f) (eval_members (exprs_from doc k i (e - i)) k scope vs)
   unfolding eval_members
-  adds_over a x h t z g y = rw (exprs_go doc k e i h, ← x) (go_told t z (λ v j. halt_told _ (g v j.held) y))
+  adds_over a x h t g = rw (exprs_go doc k e i h, ← x) (go_told t (λ v j. halt_told _ (g v j)))
 
-  pub adds_go : {u u' : List ℕ} {hx : Held} {x y r : Judgement} (a : ℕ) → a ≡ operand_at doc k i → i < e → Told (Valued hx) x (eval_expr (expr_at doc a) scope) → x.number ≡ 0 →
-      ((v : Value) → Holds hx v → Told (Grown u) y (add k v vs)) → y.number ≡ 0 →
+  pub adds_go : {u u' : List ℕ} {hx : Held} {d : Unit {0}} {r : Result (Unit {0}) Refusal} (a : ℕ) → a ≡ operand_at doc k i → i < e → Told Holds (Ok hx) (eval_expr (expr_at doc a) scope) →
+      ((v : Value) → Holds hx v → Told (Grown u) (Ok d) (add k v vs)) →
       ((us : Values) → SetIn u us → Told (Grown u') r (eval_members (exprs_from doc k (i + 1) (e - (i + 1))) k scope us)) →
       Told (Grown u') r (eval_members (exprs_from doc k i (e - i)) k scope vs)
   unfolding eval_members
-  adds_go a x h t z g y m = rw (exprs_go doc k e i h, ← x) (go_told t z (λ v j. go_told (g v j.held) y (λ us q. m us q.gathers)))
+  adds_go a x h t g m = rw (exprs_go doc k e i h, ← x) (go_told t (λ v j. go_told (g v j) m))
 
 pub handed_same : {doc work w : List ℕ} {s n k : ℕ} (u : List ℕ) → length u ≡ length work → Handed doc work w s n k → Handed doc u w s n k
 handed_same u e h = record { ready = ready_same u e h.ready; words = h.words; few = h.few }
@@ -135,15 +132,14 @@ module _ {doc work w : List ℕ} {n k : ℕ} (h : Handed doc work w expressions 
     reference_tree : expr_at doc k ≡ reference k (get_or w 1 0) (exprs_from doc k 2 (length w - 2))
     reference_tree = rw h.words (expr_reference doc k h.ready.at q).tree
 
-    pub reference_stop : (scope : Environment) {ws : List ℕ} {m : ℕ} {hr : Held} {r : Judgement} → Told (Joined ws m hr) r (eval_exprs (exprs_from doc k 2 (length w - 2)) scope) → (r.number ≡ 0 → ⊥) →
-        Told (Valued hr) r (eval_expr (expr_at doc k) scope)
+    pub reference_stop : (scope : Environment) {ws : List ℕ} {m : ℕ} {f : Refusal} → Told (Joined ws m) (Err f) (eval_exprs (exprs_from doc k 2 (length w - 2)) scope) → Told Holds (Err f) (eval_expr (expr_at doc k) scope)
     unfolding eval_expr
-    reference_stop scope t z = rw reference_tree (halt_told _ t z)
+    reference_stop scope t = rw reference_tree (halt_told _ t)
 
-    pub reference_go : (scope : Environment) {ws : List ℕ} {m : ℕ} {hr hs : Held} {r s : Judgement} → Told (Joined ws m hr) r (eval_exprs (exprs_from doc k 2 (length w - 2)) scope) → r.number ≡ 0 →
-        Told (Valued hs) s (refer k (exprs_from doc k 2 (length w - 2)) (lookup (get_or w 1 0) scope)) → Told (Valued hs) s (eval_expr (expr_at doc k) scope)
+    pub reference_go : (scope : Environment) {ws : List ℕ} {m : ℕ} {hr : Held} {s : Result Held Refusal} → Told (Joined ws m) (Ok hr) (eval_exprs (exprs_from doc k 2 (length w - 2)) scope) →
+        Told Holds s (refer k (exprs_from doc k 2 (length w - 2)) (lookup (get_or w 1 0) scope)) → Told Holds s (eval_expr (expr_at doc k) scope)
     unfolding eval_expr
-    reference_go scope t z g = rw reference_tree (go_told t z (λ vs j. g))
+    reference_go scope t g = rw reference_tree (go_told t (λ vs j. g))
 
     pub has_actuals_lem : 2 < length w → true ≡ has_actuals (exprs_from doc k 2 (length w - 2))
     unfolding has_actuals
@@ -155,9 +151,9 @@ module _ {doc work w : List ℕ} {n k : ℕ} (h : Handed doc work w expressions 
       unfolding has_actuals
       no_actuals = sym (ap has_actuals (exprs_end doc k (length w) 2 l))
 
-      pub reference_plain : {R : Judgement → Value → Type 0} {s : Judgement} → Told R s (refer k (exprs_from doc k 2 (length w - 2)) (lookup (get_or w 1 0) scope)) → Told R s (eval_expr (expr_at doc k) scope)
+      pub reference_plain : {C : Type 0} {R : C → Value → Type 0} {s : Result C Refusal} → Told R s (refer k (exprs_from doc k 2 (length w - 2)) (lookup (get_or w 1 0) scope)) → Told R s (eval_expr (expr_at doc k) scope)
       unfolding eval_expr eval_exprs
-      reference_plain {R} {s} g = rw reference_tree (subst (λ (xs : Exprs). Told R s (eval_exprs xs scope >>= λ vs. refer k (exprs_from doc k 2 (length w - 2)) (lookup (get_or w 1 0) scope))) (sym (exprs_end doc k (length w) 2 l)) (at_pure _ _ g))
+      reference_plain {R = R} {s = s} g = rw reference_tree (subst (λ (xs : Exprs). Told R s (eval_exprs xs scope >>= λ vs. refer k (exprs_from doc k 2 (length w - 2)) (lookup (get_or w 1 0) scope))) (sym (exprs_end doc k (length w) 2 l)) (at_pure _ _ g))
 
   -- 33 Set, 34 Tuple, 35 Product
   pub member_operands : (q : ℕ) → kind_at doc k ≡ q → 33 ≤ q → q ≤ 35 → Operands doc w k expressions 1
@@ -168,41 +164,39 @@ module _ {doc work w : List ℕ} {n k : ℕ} (h : Handed doc work w expressions 
   pub members_tree : (q : ℕ) → kind_at doc k ≡ q → 33 ≤ q → q ≤ 35 → expr_at doc k ≡ members_of q k (exprs_from doc k 1 (length w - 1))
   members_tree q e a b = rw h.words (expr_members doc k h.ready.at q e a b).tree
 
-  pub set_stop : kind_at doc k ≡ 33 → (scope : Environment) {u : List ℕ} {h : Held} {r : Judgement} → Told (Grown u) r (eval_members (exprs_from doc k 1 (length w - 1)) k scope nil) → (r.number ≡ 0 → ⊥) →
-      Told (Valued h) r (eval_expr (expr_at doc k) scope)
+  pub set_stop : kind_at doc k ≡ 33 → (scope : Environment) {u : List ℕ} {f : Refusal} → Told (Grown u) (Err f) (eval_members (exprs_from doc k 1 (length w - 1)) k scope nil) → Told Holds (Err f) (eval_expr (expr_at doc k) scope)
   unfolding eval_expr
-  set_stop q scope t z = rw (members_tree 33 q (omega arith) (omega arith)) (halt_told _ t z)
+  set_stop q scope t = rw (members_tree 33 q (omega arith) (omega arith)) (halt_told _ t)
 
-  pub set_go : kind_at doc k ≡ 33 → (scope : Environment) {u : List ℕ} {hs : Held} {r s : Judgement} → Told (Grown u) r (eval_members (exprs_from doc k 1 (length w - 1)) k scope nil) → r.number ≡ 0 → s.number ≡ 0 →
-      ((vs : Values) → SetIn u vs → Holds hs (Value.set vs)) → Told (Valued hs) s (eval_expr (expr_at doc k) scope)
+  pub set_go : kind_at doc k ≡ 33 → (scope : Environment) {u : List ℕ} {hs : Held} {d : Unit {0}} → Told (Grown u) (Ok d) (eval_members (exprs_from doc k 1 (length w - 1)) k scope nil) →
+      ((vs : Values) → SetIn u vs → Holds hs (Value.set vs)) → Told Holds (Ok hs) (eval_expr (expr_at doc k) scope)
   unfolding eval_expr
-  set_go q scope t z y b = rw (members_tree 33 q (omega arith) (omega arith)) (go_told t z (λ vs g. keep_fine k (Value.set vs) _ y (b vs g.gathers)))
+  set_go q scope t b = rw (members_tree 33 q (omega arith) (omega arith)) (go_told t (λ vs g. keep_fine k (Value.set vs) (b vs g)))
 
-  pub tuple_stop : kind_at doc k ≡ 34 → (scope : Environment) {ws : List ℕ} {m : ℕ} {hr : Held} {r : Judgement} → Told (Joined ws m hr) r (eval_exprs (exprs_from doc k 1 (length w - 1)) scope) → (r.number ≡ 0 → ⊥) →
-      Told (Valued hr) r (eval_expr (expr_at doc k) scope)
+  pub tuple_stop : kind_at doc k ≡ 34 → (scope : Environment) {ws : List ℕ} {m : ℕ} {f : Refusal} → Told (Joined ws m) (Err f) (eval_exprs (exprs_from doc k 1 (length w - 1)) scope) → Told Holds (Err f) (eval_expr (expr_at doc k) scope)
   unfolding eval_expr
-  tuple_stop q scope t z = rw (members_tree 34 q (omega arith) (omega arith)) (halt_told _ t z)
+  tuple_stop q scope t = rw (members_tree 34 q (omega arith) (omega arith)) (halt_told _ t)
 
-  pub tuple_go : kind_at doc k ≡ 34 → (scope : Environment) {hr hs : Held} {r s : Judgement} → Told (Joined (4 ∷ (length w - 1) ∷ []) (length w - 1) hr) r (eval_exprs (exprs_from doc k 1 (length w - 1)) scope) → r.number ≡ 0 →
-      ((v : Value) → hr ≡ words (encode v) → narrow v ≡ true → Told (Valued hs) s (keep k v)) → Told (Valued hs) s (eval_expr (expr_at doc k) scope)
+  pub tuple_go : kind_at doc k ≡ 34 → (scope : Environment) {hr : Held} {s : Result Held Refusal} → Told (Joined (4 ∷ (length w - 1) ∷ []) (length w - 1)) (Ok hr) (eval_exprs (exprs_from doc k 1 (length w - 1)) scope) →
+      ((v : Value) → hr ≡ words (encode v) → narrow v ≡ true → Told Holds s (keep k v)) → Told Holds s (eval_expr (expr_at doc k) scope)
   unfolding eval_expr encode narrow
-  tuple_go q scope t z g =
+  tuple_go q scope t g =
       rw (members_tree 34 q (omega arith) (omega arith))
-      (go_told t z (λ vs j. g (Value.tuple vs) (j.words ∙ ap (λ (m : ℕ). words (4 ∷ m ∷ encodes vs)) (sym j.counted)) j.narrow))
+      (go_told t (λ vs j. g (Value.tuple vs) (j.words ∙ ap (λ (m : ℕ). words (4 ∷ m ∷ encodes vs)) (sym j.counted)) j.narrow))
 
   -- 37 Apply, 41 to 45
   module _ (a b : ℕ) (x : a ≡ get_or w 1 0) (y : b ≡ get_or w 2 0) where
     pub apply_operands : kind_at doc k ≡ 37 → Lower doc k expressions a × Lower doc k expressions b
     apply_operands q = let l = expr_application doc k h.ready.at q a b (in_words h 1 a x) (in_words h 2 b y) in (l.left, l.right)
 
-    pub apply_told : kind_at doc k ≡ 37 → (scope : Environment) → {hs : Held} {s : Judgement} → Told (Valued hs) s (eval_expr (expr_at doc a) scope >>= λ u. eval_expr (expr_at doc b) scope >>= λ v. image_of k u v) → Told (Valued hs) s (eval_expr (expr_at doc k) scope)
+    pub apply_told : kind_at doc k ≡ 37 → (scope : Environment) → {s : Result Held Refusal} → Told Holds s (eval_expr (expr_at doc a) scope >>= λ u. eval_expr (expr_at doc b) scope >>= λ v. image_of k u v) → Told Holds s (eval_expr (expr_at doc k) scope)
     unfolding eval_expr image_of
     apply_told q scope t = rw (expr_application doc k h.ready.at q a b (in_words h 1 a x) (in_words h 2 b y)).tree t
 
     pub arith_operands : 41 ≤ kind_at doc k → kind_at doc k ≤ 45 → Lower doc k expressions a × Lower doc k expressions b
     arith_operands c d = let l = expr_arithmetic doc k h.ready.at (kind_at doc k) refl c d a b (in_words h 1 a x) (in_words h 2 b y) in (l.left, l.right)
 
-    pub arith_told : 41 ≤ kind_at doc k → kind_at doc k ≤ 45 → (scope : Environment) → {R : Judgement → Value → Type 0} {s : Judgement} → Told R s (eval_expr (expr_at doc a) scope >>= λ u. eval_expr (expr_at doc b) scope >>= λ v. arithmetic_of k (kind_at doc k) u v) → Told R s (eval_expr (expr_at doc k) scope)
+    pub arith_told : 41 ≤ kind_at doc k → kind_at doc k ≤ 45 → (scope : Environment) → {C : Type 0} {R : C → Value → Type 0} {s : Result C Refusal} → Told R s (eval_expr (expr_at doc a) scope >>= λ u. eval_expr (expr_at doc b) scope >>= λ v. arithmetic_of k (kind_at doc k) u v) → Told R s (eval_expr (expr_at doc k) scope)
     unfolding eval_expr arithmetic_of
     arith_told c d scope t = rw (expr_arithmetic doc k h.ready.at (kind_at doc k) refl c d a b (in_words h 1 a x) (in_words h 2 b y)).tree t
 
@@ -223,36 +217,35 @@ module _ {doc work w : List ℕ} {n k : ℕ} (h : Handed doc work w predicates n
     relation_tree = (pred_relation doc k h.ready.at q e c d a b (in_words h 1 a x) (in_words h 2 b y)).tree
 
   module _ (a b : ℕ) (x : a ≡ get_or w 1 0) (y : b ≡ get_or w 2 0) (scope : Environment) where
-    pub equal_told : kind_at doc k ≡ 21 → {s : Judgement} → Told Judged s (eval_expr (expr_at doc a) scope >>= λ u. eval_expr (expr_at doc b) scope >>= λ v. pure (same_value u v)) → Told Judged s (eval_pred (pred_at doc k) scope)
+    pub equal_told : kind_at doc k ≡ 21 → {s : Result Bool Refusal} → Told Judged s (eval_expr (expr_at doc a) scope >>= λ u. eval_expr (expr_at doc b) scope >>= λ v. pure (same_value u v)) → Told Judged s (eval_pred (pred_at doc k) scope)
     unfolding eval_pred
     equal_told q t = rw (relation_tree 21 q (omega arith) (omega arith) a b x y) t
 
-    pub below_told : kind_at doc k ≡ 23 → {s : Judgement} → Told Judged s (eval_expr (expr_at doc a) scope >>= λ u. eval_expr (expr_at doc b) scope >>= λ v. at_most_of k u v) → Told Judged s (eval_pred (pred_at doc k) scope)
+    pub below_told : kind_at doc k ≡ 23 → {s : Result Bool Refusal} → Told Judged s (eval_expr (expr_at doc a) scope >>= λ u. eval_expr (expr_at doc b) scope >>= λ v. at_most_of k u v) → Told Judged s (eval_pred (pred_at doc k) scope)
     unfolding eval_pred at_most_of
     below_told q t = rw (relation_tree 23 q (omega arith) (omega arith) a b x y) t
 
-    pub member_stop : kind_at doc k ≡ 22 → {hr : Held} {r : Judgement} → Told (Valued hr) r (eval_expr (expr_at doc a) scope) → (r.number ≡ 0 → ⊥) → Told Judged r (eval_pred (pred_at doc k) scope)
+    pub member_stop : kind_at doc k ≡ 22 → {f : Refusal} → Told Holds (Err f) (eval_expr (expr_at doc a) scope) → Told Judged (Err f) (eval_pred (pred_at doc k) scope)
     unfolding eval_pred
-    member_stop q t z = rw (relation_tree 22 q (omega arith) (omega arith) a b x y) (halt_told _ t z)
+    member_stop q t = rw (relation_tree 22 q (omega arith) (omega arith) a b x y) (halt_told _ t)
 
-    pub member_go : kind_at doc k ≡ 22 → {hr : Held} {r s : Judgement} → Told (Valued hr) r (eval_expr (expr_at doc a) scope) → r.number ≡ 0 →
+    pub member_go : kind_at doc k ≡ 22 → {hr : Held} {s : Result Bool Refusal} → Told Holds (Ok hr) (eval_expr (expr_at doc a) scope) →
         ((v : Value) → Holds hr v → Told Judged s (test (expr_at doc b) scope v)) → Told Judged s (eval_pred (pred_at doc k) scope)
     unfolding eval_pred
-    member_go q t z g = rw (relation_tree 22 q (omega arith) (omega arith) a b x y) (go_told t z (λ v j. g v j.held))
+    member_go q t g = rw (relation_tree 22 q (omega arith) (omega arith) a b x y) (go_told t g)
 
   -- 24
   module _ (q : kind_at doc k ≡ 24) (a : ℕ) (x : a ≡ get_or w 1 0) where
     pub not_operand : Lower doc k predicates a
     not_operand = (pred_not doc k h.ready.at q a (in_words h 1 a x)).first
 
-    pub not_stop : (scope : Environment) {r : Judgement} → Told Judged r (eval_pred (pred_at doc a) scope) → (r.number ≡ 0 → ⊥) → Told Judged r (eval_pred (pred_at doc k) scope)
+    pub not_stop : (scope : Environment) {f : Refusal} → Told Judged (Err f) (eval_pred (pred_at doc a) scope) → Told Judged (Err f) (eval_pred (pred_at doc k) scope)
     unfolding eval_pred
-    not_stop scope t z = rw (pred_not doc k h.ready.at q a (in_words h 1 a x)).tree (halt_told _ t z)
+    not_stop scope t = rw (pred_not doc k h.ready.at q a (in_words h 1 a x)).tree (halt_told _ t)
 
-    pub not_go : (scope : Environment) {r s : Judgement} (b : Bool) → Told Judged r (eval_pred (pred_at doc a) scope) → r.number ≡ 0 → r.flag ≡ b → s.number ≡ 0 → s.flag ≡ not b →
-        Told Judged s (eval_pred (pred_at doc k) scope)
+    pub not_go : (scope : Environment) {b : Bool} → Told Judged (Ok b) (eval_pred (pred_at doc a) scope) → Told Judged (Ok (not b)) (eval_pred (pred_at doc k) scope)
     unfolding eval_pred
-    not_go scope b t z f y g = rw (pred_not doc k h.ready.at q a (in_words h 1 a x)).tree (go_told t z (λ v j. fine y (record { flag = g ∙ ap not (sym f ∙ j.flag) })))
+    not_go scope t = rw (pred_not doc k h.ready.at q a (in_words h 1 a x)).tree (go_told t (λ v j. fine (ap not j)))
 
   -- 25 to 27
   module _ (c : 25 ≤ kind_at doc k) (d : kind_at doc k ≤ 27) (a b : ℕ) (x : a ≡ get_or w 1 0) (y : b ≡ get_or w 2 0) where
@@ -262,37 +255,36 @@ module _ {doc work w : List ℕ} {n k : ℕ} (h : Handed doc work w predicates n
     connected_tree : pred_at doc k ≡ connected k (connective_of (kind_at doc k)) (pred_at doc a) (pred_at doc b)
     connected_tree = (pred_connected doc k h.ready.at (kind_at doc k) refl c d a b (in_words h 1 a x) (in_words h 2 b y)).tree
 
-    pub connected_stop : (scope : Environment) {r : Judgement} → Told Judged r (eval_pred (pred_at doc a) scope) → (r.number ≡ 0 → ⊥) → Told Judged r (eval_pred (pred_at doc k) scope)
+    pub connected_stop : (scope : Environment) {f : Refusal} → Told Judged (Err f) (eval_pred (pred_at doc a) scope) → Told Judged (Err f) (eval_pred (pred_at doc k) scope)
     unfolding eval_pred
-    connected_stop scope t z = rw connected_tree (halt_told _ t z)
+    connected_stop scope t = rw connected_tree (halt_told _ t)
 
-    known_told : (o : Connective) (l b : Bool) (right : Unit {0} → Outcome Bool) {s : Judgement} → Known b ≡ decision_of o l → s.number ≡ 0 → s.flag ≡ b → Told Judged s (connect o l right)
+    known_told : (o : Connective) (l b : Bool) (right : Unit {0} → Outcome Bool) → Some b ≡ decision_of o l → Told Judged (Ok b) (connect o l right)
     unfolding decision_of connect
-    known_told and true b right e z f = let q : ◌≡◌ {A = ℕ} 0 1 = cc in absurd (omega arith)
-    known_told and false b right e z f = let q : b ≡ false = cc in fine z (record { flag = f ∙ q })
-    known_told or true b right e z f = let q : b ≡ true = cc in fine z (record { flag = f ∙ q })
-    known_told or false b right e z f = let q : ◌≡◌ {A = ℕ} 0 1 = cc in absurd (omega arith)
-    known_told implies true b right e z f = let q : ◌≡◌ {A = ℕ} 0 1 = cc in absurd (omega arith)
-    known_told implies false b right e z f = let q : b ≡ true = cc in fine z (record { flag = f ∙ q })
+    known_told and true b right e = absurd (some_not_none e)
+    known_told and false b right e = let q : b ≡ false = cc in fine q
+    known_told or true b right e = let q : b ≡ true = cc in fine q
+    known_told or false b right e = absurd (some_not_none e)
+    known_told implies true b right e = absurd (some_not_none e)
+    known_told implies false b right e = let q : b ≡ true = cc in fine q
 
-    right_told_lem : (o : Connective) (l : Bool) (right : Unit {0} → Outcome Bool) {s : Judgement} → Right ≡ decision_of o l → Told Judged s (right tt) → Told Judged s (connect o l right)
+    right_told_lem : (o : Connective) (l : Bool) (right : Unit {0} → Outcome Bool) {s : Result Bool Refusal} → None ≡ decision_of o l → Told Judged s (right tt) → Told Judged s (connect o l right)
     unfolding decision_of connect
     right_told_lem and true right e t = t
-    right_told_lem and false right e t = let q : ◌≡◌ {A = ℕ} 0 1 = cc in absurd (omega arith)
-    right_told_lem or true right e t = let q : ◌≡◌ {A = ℕ} 0 1 = cc in absurd (omega arith)
+    right_told_lem and false right e t = absurd (some_not_none (sym e))
+    right_told_lem or true right e t = absurd (some_not_none (sym e))
     right_told_lem or false right e t = t
     right_told_lem implies true right e t = t
-    right_told_lem implies false right e t = let q : ◌≡◌ {A = ℕ} 0 1 = cc in absurd (omega arith)
+    right_told_lem implies false right e t = absurd (some_not_none (sym e))
 
-    pub connected_known : (scope : Environment) {r s : Judgement} (v : Bool) → Told Judged r (eval_pred (pred_at doc a) scope) → r.number ≡ 0 →
-        Known v ≡ decision_of (connective_of (kind_at doc k)) r.flag → s.number ≡ 0 → s.flag ≡ v → Told Judged s (eval_pred (pred_at doc k) scope)
+    pub connected_known : (scope : Environment) {l : Bool} (v : Bool) → Told Judged (Ok l) (eval_pred (pred_at doc a) scope) → Some v ≡ decision_of (connective_of (kind_at doc k)) l → Told Judged (Ok v) (eval_pred (pred_at doc k) scope)
     unfolding eval_pred
-    connected_known scope v t z e y f = rw connected_tree (go_told t z (λ l j. known_told _ l v _ (e ∙ ap (decision_of (connective_of (kind_at doc k))) j.flag) y f))
+    connected_known scope v t e = rw connected_tree (go_told t (λ l j. known_told _ l v _ (e ∙ ap (decision_of (connective_of (kind_at doc k))) j)))
 
-    pub connected_right : (scope : Environment) {r s : Judgement} → Told Judged r (eval_pred (pred_at doc a) scope) → r.number ≡ 0 → Right ≡ decision_of (connective_of (kind_at doc k)) r.flag →
+    pub connected_right : (scope : Environment) {l : Bool} {s : Result Bool Refusal} → Told Judged (Ok l) (eval_pred (pred_at doc a) scope) → None ≡ decision_of (connective_of (kind_at doc k)) l →
         Told Judged s (eval_pred (pred_at doc b) scope) → Told Judged s (eval_pred (pred_at doc k) scope)
     unfolding eval_pred
-    connected_right scope t z e g = rw connected_tree (go_told t z (λ l j. right_told_lem _ l _ (e ∙ ap (decision_of (connective_of (kind_at doc k))) j.flag) g))
+    connected_right scope t e g = rw connected_tree (go_told t (λ l j. right_told_lem _ l _ (e ∙ ap (decision_of (connective_of (kind_at doc k))) j) g))
 
 pub handed_of : {doc work w : List ℕ} {s n k : ℕ} → Ready doc work s n k → w ≡ part doc k → Handed doc work w s n k
 handed_of {doc} {work} {w} {s} {n} {k} r e = let f = few_words doc s k r.at in record { ready = r; words = e; few = omega (arith, ap length e) }

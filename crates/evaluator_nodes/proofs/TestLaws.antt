@@ -1,16 +1,15 @@
 -- Member's test over nodes and over the words of values.
 use mathlib.Core.Path.{◌≡◌, refl, sym, ap, subst, ◌∙◌}
 use mathlib.Core.Bool.{Bool, true, false, ◌||◌, true≢false}
-use mathlib.Core.List.{List, [], ◌∷◌, ◌++◌, append_assoc, append-nil}
-use Prim.Native.Nat.{ℕ, zero, suc, ◌+◌, ◌*◌, ◌-◌, ◌≤◌, ◌<◌}
+use mathlib.Core.List.{List, ◌++◌, append_assoc}
+use Prim.Native.Nat.{ℕ, ◌+◌, ◌-◌, ◌≤◌, ◌<◌}
 use native.Mathlib.Omega.{arith}
 use lib.Dec.{eqb}
 use lib.ListN.{length, get_or, take, drop, replicate, length-append, take-append-drop}
-use lib.Seq.{take_at, drop_at, drop-drop, take-take, take-append-le}
+use lib.Seq.{take_at, drop_at, drop-drop}
 use borrow.Author.Tests.{eq-eqb, ne_eqb}
 use Rattle.layout.specs.Layout.{part}
 use Rattle.values.specs.Value.{Value, Values, nil, cons, count, encode, encodes}
-use Rattle.values.specs.Value as Value
 use Rattle.values.specs.Span.{span}
 use Rattle.values.specs.Held.{keep as words}
 use Rattle.values.specs.declared.held.Held.{Held}
@@ -18,23 +17,24 @@ use Rattle.values.proofs.Holding.{held_words}
 use Rattle.values.proofs.Encoding.{span_value}
 use Rattle.reader_rules.specs.Kinds.{expressions}
 use Rattle.reader_rules.specs.Nodes.{kind_at, operand_at}
-use Rattle.reader_rules.specs.Promise.{At, Lower}
+use Rattle.reader_rules.specs.Promise.{At}
 use Rattle.reader_rules.specs.Tree.{Expr, reference, number, integers, product, power, application, selection, theta, schema_set, arithmetic, comprehension, expr_node}
 use Rattle.reader_rules.specs.Tree as Tree
-use Rattle.reader_rules.specs.Decode.{Node, unlisted, makers, expr_at, exprs_from, members_of}
+use Rattle.reader_rules.specs.Decode.{unlisted, makers, expr_at, exprs_from}
 use Rattle.reader_rules.proofs.TreeShape.{AllFrom, all_at, ◌▹◌, sub, as_made}
 use Rattle.reader_rules.proofs.TreeExpr.{expr_range, expr_integers, expr_power, expr_members, expr_node_lem}
 use Rattle.reader_rules.proofs.TreeLists.{exprs_go, exprs_end, exprs_length_lem}
-use Rattle.evaluator_rules.specs.Outcomes.{Outcome, ◌>>=◌, pure, stop}
+use Rattle.evaluator_rules.specs.Outcomes.{Outcome, ◌>>=◌}
 use Rattle.evaluator_rules.specs.Environment.{Environment}
 use Rattle.evaluator_rules.specs.Operations.{as_set, as_tuple, all_pass, count_if, same_count}
 use Rattle.evaluator_rules.specs.Rules.{eval_expr, among_members, test_expr, test_exprs, test}
 use Rattle.evaluator_operations.specs.Steps.{integer_test}
-use Rattle.evaluator_operations.specs.declared.worked.Judgement.{Judgement}
-use Rattle.evaluator_operations.specs.Worked.{narrow, all_narrow, Holds, Told, fine, ceased, Valued, Judged, Stops}
+use Rattle.std.proofs.Common.{Result, Ok, Err}
+use Rattle.reader_rules.specs.declared.Refusal.{Refusal}
+use Rattle.evaluator_operations.specs.Worked.{narrow, Holds, Told, fine, Judged, Stops}
 use Rattle.evaluator_scope.specs.Blocks.{Lies}
-use Rattle.evaluator_nodes.specs.Ready.{Ready, Handed, Operands, Rest}
-use Rattle.evaluator_operations.proofs.ToldLaws.{stop_told, go_told, halt_told, at_pure, at_stop, choose_told}
+use Rattle.evaluator_nodes.specs.Ready.{Ready, Handed, Rest}
+use Rattle.evaluator_operations.proofs.ToldLaws.{go_told, halt_told, at_pure, at_stop, choose_told}
 use Rattle.evaluator_operations.proofs.OperationLaws.{held_tag, tag_set, tag_none, tag_tuple, tag_single, narrow_head, narrow_tail}
 use Rattle.evaluator_nodes.proofs.NodeLaws.{in_words}
 
@@ -88,14 +88,14 @@ module _ {doc work : List ℕ} {n k : ℕ} (h : Ready doc work expressions n k) 
       by_value (expr_at doc k) (formed_kind doc k h.at ∙ rw (ne_eqb (kind_at doc k) 32 a, ne_eqb (kind_at doc k) 35 b, ne_eqb (kind_at doc k) 36 c)) (eval_expr (expr_at doc k)) x scope
       ∙ ap (λ (j : ℕ). eval_expr (expr_at doc k) scope >>= among_members j x) (expr_node_lem doc k h.at)
 
-  pub value_stop : {hr : Held} {r : Judgement} → Told (Valued hr) r (eval_expr (expr_at doc k) scope) → (r.number ≡ 0 → ⊥) → Told Judged r (test (expr_at doc k) scope x)
-  value_stop {r = r} t z = subst (Told Judged r) (sym value_test) (halt_told _ t z)
+  pub value_stop : {f : Refusal} → Told Holds (Err f) (eval_expr (expr_at doc k) scope) → Told Judged (Err f) (test (expr_at doc k) scope x)
+  value_stop {f = f} t = subst (Told Judged (Err f)) (sym value_test) (halt_told _ t)
 
-  pub value_go : {hr : Held} {r s : Judgement} → Told (Valued hr) r (eval_expr (expr_at doc k) scope) → r.number ≡ 0 → ((y : Value) → Holds hr y → Told Judged s (among_members k x y)) →
+  pub value_go : {hr : Held} {s : Result Bool Refusal} → Told Holds (Ok hr) (eval_expr (expr_at doc k) scope) → ((y : Value) → Holds hr y → Told Judged s (among_members k x y)) →
       Told Judged s (test (expr_at doc k) scope x)
-  value_go {s = s} t z g = subst (Told Judged s) (sym value_test) (go_told t z (λ y j. g y j.held))
+  value_go {s = s} t g = subst (Told Judged s) (sym value_test) (go_told t g)
 
-pub integers_test : {doc work : List ℕ} {n k : ℕ} → Ready doc work expressions n k → kind_at doc k ≡ 32 → (x : Value) (scope : Environment) {r : Judgement} → Told Judged r (integer_test k x) →
+pub integers_test : {doc work : List ℕ} {n k : ℕ} → Ready doc work expressions n k → kind_at doc k ≡ 32 → (x : Value) (scope : Environment) {r : Result Bool Refusal} → Told Judged r (integer_test k x) →
     Told Judged r (test (expr_at doc k) scope x)
 unfolding test_expr integer_test
 integers_test {doc} {work} {n} {k} h q x scope t = rw (expr_integers doc k h.at q) t
@@ -157,70 +157,70 @@ module _ (h : Held) (at c : ℕ) (v : Value) (vs : Values) (g : Rest h at c (con
 
 -- ---- Power: every member passes
 module _ (h : Held) (at c : ℕ) (f : Value → Outcome Bool) where
-  pub all_end : (vs : Values) → Rest h at c vs → c ≡ 0 → {r : Judgement} → r.number ≡ 0 → r.flag ≡ true → Told Judged r (all_pass vs f)
+  pub all_end : (vs : Values) → Rest h at c vs → c ≡ 0 → Told Judged (Ok true) (all_pass vs f)
   unfolding all_pass count
-  all_end nil g e z b = fine z (record { flag = b })
-  all_end (cons v vs) g e z b = let n = g.counted in absurd (omega arith)
+  all_end nil g e = fine refl
+  all_end (cons v vs) g e = let n = g.counted in absurd (omega arith)
 
   module _ (len : ℕ) (m : Held) (e : len ≡ span (drop at h.words)) (q : m ≡ words (take len (drop at h.words))) (some : c ≡ 0 → ⊥) where
-    pub all_stop : (vs : Values) → Rest h at c vs → {r : Judgement} → ((y : Value) → Holds m y → Told Judged r (f y)) → (r.number ≡ 0 → ⊥) → Told Judged r (all_pass vs f)
+    pub all_stop : (vs : Values) → Rest h at c vs → {x : Refusal} → ((y : Value) → Holds m y → Told Judged (Err x) (f y)) → Told Judged (Err x) (all_pass vs f)
     unfolding all_pass count
-    all_stop nil g t z = absurd (some (sym g.counted))
-    all_stop (cons v vs) g t z = halt_told _ (t v (first_held h at c v vs g len m e q)) z
+    all_stop nil g t = absurd (some (sym g.counted))
+    all_stop (cons v vs) g t = halt_told _ (t v (first_held h at c v vs g len m e q))
 
-    pub all_false : (vs : Values) → Rest h at c vs → {r : Judgement} → ((y : Value) → Holds m y → Told Judged r (f y)) → r.number ≡ 0 → r.flag ≡ false → Told Judged r (all_pass vs f)
+    pub all_false : (vs : Values) → Rest h at c vs → {b : Bool} → ((y : Value) → Holds m y → Told Judged (Ok b) (f y)) → b ≡ false → Told Judged (Ok false) (all_pass vs f)
     unfolding all_pass count
-    all_false nil g t z b = absurd (some (sym g.counted))
-    all_false (cons v vs) g t z b =
-        go_told (t v (first_held h at c v vs g len m e q)) z
-        (λ y j. choose_told y (λ w. absurd (true≢false (sym w ∙ sym j.flag ∙ b))) (λ w. fine z (record { flag = b })))
+    all_false nil g t b = absurd (some (sym g.counted))
+    all_false (cons v vs) g t b =
+        go_told (t v (first_held h at c v vs g len m e q))
+        (λ y j. choose_told y (λ w. absurd (true≢false (sym w ∙ sym j ∙ b))) (λ w. fine refl))
 
-    pub all_go : (vs : Values) → Rest h at c vs → {x r : Judgement} → ((y : Value) → Holds m y → Told Judged x (f y)) → x.number ≡ 0 → x.flag ≡ true →
+    pub all_go : (vs : Values) → Rest h at c vs → {b : Bool} {r : Result Bool Refusal} → ((y : Value) → Holds m y → Told Judged (Ok b) (f y)) → b ≡ true →
         ((us : Values) → Rest h (at + len) (c - 1) us → Told Judged r (all_pass us f)) → Told Judged r (all_pass vs f)
     unfolding all_pass count
-    all_go nil g t z b k = absurd (some (sym g.counted))
-    all_go (cons v vs) g t z b k =
-        go_told (t v (first_held h at c v vs g len m e q)) z
-        (λ y j. choose_told y (λ w. k vs (rest_more h at c v vs g len e)) (λ w. absurd (true≢false (sym b ∙ j.flag ∙ w))))
+    all_go nil g t b k = absurd (some (sym g.counted))
+    all_go (cons v vs) g t b k =
+        go_told (t v (first_held h at c v vs g len m e q))
+        (λ y j. choose_told y (λ w. k vs (rest_more h at c v vs g len e)) (λ w. absurd (true≢false (sym b ∙ j ∙ w))))
 
 -- ---- Product: part by part
 module _ (doc : List ℕ) (k e i : ℕ) (scope : Environment) (h : Held) (at : ℕ) where
-  pub product_end : e ≤ i → (vs : Values) {r : Judgement} → r.number ≡ 0 → r.flag ≡ true → Told Judged r (test_exprs (exprs_from doc k i (e - i)) vs scope)
+  pub product_end : e ≤ i → (vs : Values) → Told Judged (Ok true) (test_exprs (exprs_from doc k i (e - i)) vs scope)
   unfolding test_exprs
-  product_end l vs z b = rw (exprs_end doc k e i l) (fine z (record { flag = b }))
+  product_end l vs = rw (exprs_end doc k e i l) (fine refl)
 
   module _ (l : i < e) (len : ℕ) (m : Held) (p : len ≡ span (drop at h.words)) (q : m ≡ words (take len (drop at h.words))) (a : ℕ) (x : a ≡ operand_at doc k i) where
-    pub product_stop : (vs : Values) → Rest h at (e - i) vs → {r : Judgement} → ((y : Value) → Holds m y → Told Judged r (test (expr_at doc a) scope y)) → (r.number ≡ 0 → ⊥) →
-        Told Judged r (test_exprs (exprs_from doc k i (e - i)) vs scope)
+    pub product_stop : (vs : Values) → Rest h at (e - i) vs → {f : Refusal} → ((y : Value) → Holds m y → Told Judged (Err f) (test (expr_at doc a) scope y)) →
+        Told Judged (Err f) (test_exprs (exprs_from doc k i (e - i)) vs scope)
     unfolding test_exprs count
-    product_stop nil g t z = let n = g.counted in absurd (omega arith)
-    product_stop (cons v vs) g t z = rw (exprs_go doc k e i l, ← x) (halt_told _ (t v (first_held h at (e - i) v vs g len m p q)) z)
+    product_stop nil g t = let n = g.counted in absurd (omega arith)
+    product_stop (cons v vs) g t = rw (exprs_go doc k e i l, ← x) (halt_told _ (t v (first_held h at (e - i) v vs g len m p q)))
 
-    pub product_false : (vs : Values) → Rest h at (e - i) vs → {r : Judgement} → ((y : Value) → Holds m y → Told Judged r (test (expr_at doc a) scope y)) → r.number ≡ 0 → r.flag ≡ false →
-        Told Judged r (test_exprs (exprs_from doc k i (e - i)) vs scope)
+    pub product_false : (vs : Values) → Rest h at (e - i) vs → {b : Bool} → ((y : Value) → Holds m y → Told Judged (Ok b) (test (expr_at doc a) scope y)) → b ≡ false →
+        Told Judged (Ok false) (test_exprs (exprs_from doc k i (e - i)) vs scope)
     unfolding test_exprs count
-    product_false nil g t z b = let n = g.counted in absurd (omega arith)
-    product_false (cons v vs) g t z b =
-        rw (exprs_go doc k e i l, ← x) (go_told (t v (first_held h at (e - i) v vs g len m p q)) z
-        (λ y j. choose_told y (λ w. absurd (true≢false (sym w ∙ sym j.flag ∙ b))) (λ w. fine z (record { flag = b }))))
+    product_false nil g t b = let n = g.counted in absurd (omega arith)
+    product_false (cons v vs) g t b =
+        rw (exprs_go doc k e i l, ← x) (go_told (t v (first_held h at (e - i) v vs g len m p q))
+        (λ y j. choose_told y (λ w. absurd (true≢false (sym w ∙ sym j ∙ b))) (λ w. fine refl)))
 
-    pub product_go : (vs : Values) → Rest h at (e - i) vs → {s r : Judgement} → ((y : Value) → Holds m y → Told Judged s (test (expr_at doc a) scope y)) → s.number ≡ 0 → s.flag ≡ true →
+    pub product_go : (vs : Values) → Rest h at (e - i) vs → {b : Bool} {r : Result Bool Refusal} → ((y : Value) → Holds m y → Told Judged (Ok b) (test (expr_at doc a) scope y)) → b ≡ true →
         ((us : Values) → Rest h (at + len) (e - (i + 1)) us → Told Judged r (test_exprs (exprs_from doc k (i + 1) (e - (i + 1))) us scope)) →
         Told Judged r (test_exprs (exprs_from doc k i (e - i)) vs scope)
     unfolding test_exprs count
-    product_go nil g t z b n = let c = g.counted in absurd (omega arith)
-    product_go (cons v vs) g t z b n =
+    product_go nil g t b n = let c = g.counted in absurd (omega arith)
+    product_go (cons v vs) g t b n =
         let c : e - i - 1 ≡ e - (i + 1) = omega arith in
-        rw (exprs_go doc k e i l, ← x) (go_told (t v (first_held h at (e - i) v vs g len m p q)) z
-        (λ y j. choose_told y (λ w. n vs (subst (λ (d : ℕ). Rest h (at + len) d vs) c (rest_more h at (e - i) v vs g len p))) (λ w. absurd (true≢false (sym b ∙ j.flag ∙ w)))))
+        rw (exprs_go doc k e i l, ← x) (go_told (t v (first_held h at (e - i) v vs g len m p q))
+        (λ y j. choose_told y (λ w. n vs (subst (λ (d : ℕ). Rest h (at + len) d vs) c (rest_more h at (e - i) v vs g len p))) (λ w. absurd (true≢false (sym b ∙ j ∙ w)))))
 
 -- ---- the nodes 35 and 36
 module _ {doc work w : List ℕ} {n k : ℕ} (h : Handed doc work w expressions n k) (v : Held) (x : Value) (hx : Holds v x) (scope : Environment) where
-  pub power_other : kind_at doc k ≡ 36 → (get_or v.words 0 0 ≡ 3 → ⊥) → {r : Judgement} → Stops r 51 k → Told Judged r (test (expr_at doc k) scope x)
+  pub power_other : kind_at doc k ≡ 36 → (get_or v.words 0 0 ≡ 3 → ⊥) → {f : Refusal} → Stops f 51 k → Told Judged (Err f) (test (expr_at doc k) scope x)
   unfolding test_expr
   power_other q t s = rw (expr_power doc k h.ready.at q (operand_at doc k 1) refl).tree (rw (tag_none k x (λ e. t (held_tag v x hx ∙ e))) (at_stop _ s (λ z. omega arith)))
 
-  pub power_told : kind_at doc k ≡ 36 → get_or v.words 0 0 ≡ 3 → (a : ℕ) → a ≡ get_or w 1 0 → {r : Judgement} →
+  pub power_told : kind_at doc k ≡ 36 → get_or v.words 0 0 ≡ 3 → (a : ℕ) → a ≡ get_or w 1 0 → {r : Result Bool Refusal} →
       ((vs : Values) → Rest v 2 (get_or v.words 1 0) vs → Told Judged r (all_pass vs (test (expr_at doc a) scope))) → Told Judged r (test (expr_at doc k) scope x)
   unfolding test_expr as_set
   power_told q t a y g =
@@ -228,7 +228,7 @@ module _ {doc work w : List ℕ} {n k : ℕ} (h : Handed doc work w expressions 
       rw (expr_power doc k h.ready.at q a (in_words h 1 a y)).tree
       (rw p.1 (at_pure _ _ (g p.0 (rest_set v p.0 (subst (Holds v) p.1 hx)))))
 
-  pub product_other : kind_at doc k ≡ 35 → (get_or v.words 0 0 ≡ 4 → ⊥) → {r : Judgement} → Stops r 51 k → Told Judged r (test (expr_at doc k) scope x)
+  pub product_other : kind_at doc k ≡ 35 → (get_or v.words 0 0 ≡ 4 → ⊥) → {f : Refusal} → Stops f 51 k → Told Judged (Err f) (test (expr_at doc k) scope x)
   unfolding test_expr
   product_other q t s = rw (expr_members doc k h.ready.at 35 q (omega arith) (omega arith)).tree (rw (tag_single k x (λ e. t (held_tag v x hx ∙ e))) (at_stop _ s (λ z. omega arith)))
 
@@ -241,14 +241,14 @@ module _ {doc work w : List ℕ} {n k : ℕ} (h : Handed doc work w expressions 
       let g = subst (Holds v) e hx in
       rw (held_words v (encode (Value.tuple vs)) g.words g.short)
 
-  pub product_uneven : kind_at doc k ≡ 35 → get_or v.words 0 0 ≡ 4 → (get_or v.words 1 0 + 1 ≡ length w → ⊥) → 1 ≤ length w → {r : Judgement} → Stops r 51 k → Told Judged r (test (expr_at doc k) scope x)
+  pub product_uneven : kind_at doc k ≡ 35 → get_or v.words 0 0 ≡ 4 → (get_or v.words 1 0 + 1 ≡ length w → ⊥) → 1 ≤ length w → {f : Refusal} → Stops f 51 k → Told Judged (Err f) (test (expr_at doc k) scope x)
   unfolding test_expr as_tuple same_count count_if
   product_uneven q t u o s =
       let p = tag_tuple k x (sym (held_tag v x hx) ∙ t) in
       let c = held_count p.0 p.1 in
       rw (product_tree q) (rw p.1 (at_pure _ _ (rw (exprs_length_lem doc k 1 (length w - 1), ne_eqb (length w - 1) (count p.0) (λ e. u (omega arith))) (at_stop _ s (λ z. omega arith)))))
 
-  pub product_told : kind_at doc k ≡ 35 → get_or v.words 0 0 ≡ 4 → get_or v.words 1 0 + 1 ≡ length w → {r : Judgement} →
+  pub product_told : kind_at doc k ≡ 35 → get_or v.words 0 0 ≡ 4 → get_or v.words 1 0 + 1 ≡ length w → {r : Result Bool Refusal} →
       ((vs : Values) → Rest v 2 (length w - 1) vs → Told Judged r (test_exprs (exprs_from doc k 1 (length w - 1)) vs scope)) → Told Judged r (test (expr_at doc k) scope x)
   unfolding test_expr as_tuple same_count count_if
   product_told q t u g =

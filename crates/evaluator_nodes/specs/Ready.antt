@@ -1,5 +1,5 @@
 -- What the functions over nodes ask and leave.
-use Rattle.std.specs.Prelude.{◌≡◌, true, List, ℕ, suc, ◌+◌, ◌*◌, ◌-◌, ◌≤◌, ◌<◌, length, get_or, take, drop, ◌⊎◌}
+use Rattle.std.specs.Prelude.{◌≡◌, Bool, true, Result, List, ℕ, suc, ◌+◌, ◌*◌, ◌-◌, ◌≤◌, ◌<◌, length, get_or, take, ◌⊎◌}
 use Rattle.layout.specs.Layout.{part}
 use Rattle.values.specs.Value.{Values, count, encodes}
 use Rattle.values.specs.declared.held.Held.{Held}
@@ -16,9 +16,9 @@ use Rattle.evaluator_rules.specs.Environment.{Environment}
 use Rattle.evaluator_rules.specs.Assignments.{Domains, no_more, domain, Flow, Body, assign, each}
 use Rattle.evaluator_rules.specs.Rules.{eval_expr, eval_pred, eval_lines}
 use Rattle.evaluator_nodes.specs.Turns.{turn_at}
-use Rattle.evaluator_operations.specs.declared.worked.Judgement.{Judgement}
-use Rattle.evaluator_operations.specs.declared.worked.Worked.{Worked}
-use Rattle.evaluator_operations.specs.Worked.{all_narrow, Told, Valued, Judged, Flowed, SetIn}
+use Rattle.reader_rules.specs.declared.Refusal.{Refusal}
+use Rattle.evaluator_operations.specs.declared.worked.Flow.{Flow as Pace}
+use Rattle.evaluator_operations.specs.Worked.{all_narrow, Holds, Told, Judged, Flowed, SetIn}
 use Rattle.evaluator_scope.specs.Blocks.{Lies, Scoped, Pending, Leaves, block_words, block_count}
 use Rattle.values.specs.Value as Value
 
@@ -49,14 +49,14 @@ pub record Scoping (doc work : List ℕ) (n m k : ℕ) : Type 0 where
   pub wide : run_work_words ≤ length work
 
 -- what a result tells, for the scope that the blocks are
-abbrev pub Tells : {A : Type 0} → List ℕ → List ℕ → ℕ → (Judgement → A → Type 0) → Judgement → (Environment → Outcome A) → Type 0
+abbrev pub Tells : {B A : Type 0} → List ℕ → List ℕ → ℕ → (B → A → Type 0) → Result B Refusal → (Environment → Outcome A) → Type 0
 Tells state work n R r f = (scope : Environment) → Scoped state work n scope → Told R r (f scope)
 
 -- node k worked out as an expression, or as a predicate
-abbrev pub Evaluates : List ℕ → ℕ → ℕ → List ℕ → List ℕ → List ℕ → Worked → Type 0
-Evaluates doc k n state before after r = Leaves n before after (Tells state before n (Valued r.held) r.judgement (eval_expr (expr_at doc k)))
+abbrev pub Evaluates : List ℕ → ℕ → ℕ → List ℕ → List ℕ → List ℕ → Result Held Refusal → Type 0
+Evaluates doc k n state before after r = Leaves n before after (Tells state before n Holds r (eval_expr (expr_at doc k)))
 
-abbrev pub Decides : List ℕ → ℕ → ℕ → List ℕ → List ℕ → List ℕ → Judgement → Type 0
+abbrev pub Decides : List ℕ → ℕ → ℕ → List ℕ → List ℕ → List ℕ → Result Bool Refusal → Type 0
 Decides doc k n state before after r = Leaves n before after (Tells state before n Judged r (eval_pred (pred_at doc k)))
 
 -- the values whose words lie in a value by value, from a place on
@@ -92,21 +92,21 @@ pub record SoFar (doc : List ℕ) (k : ℕ) (u : List ℕ) (vs : Values) : Type 
   pub gathers : kind_at doc k ≡ 46 → SetIn u vs
 
 -- what each tells has the lent words before, u, and after, v
-abbrev pub LinesTold : List ℕ → ℕ → Lines → List ℕ → List ℕ → ℕ → ℕ → List ℕ → List ℕ → Judgement → Type 0
+abbrev pub LinesTold : List ℕ → ℕ → Lines → List ℕ → List ℕ → ℕ → ℕ → List ℕ → List ℕ → Result Pace Refusal → Type 0
 LinesTold doc k ls state work n m u v r =
     (scope : Environment) → Scoped state work n scope → Scoped state work (n + m) scope → (ds : Domains) → Pending work n m ds → SoFar doc k u Value.nil →
     Told (Flowed (SoFar doc k v)) r (lines_then doc k ls ds scope)
 
-abbrev pub AssignTold : List ℕ → ℕ → List ℕ → List ℕ → ℕ → ℕ → List ℕ → List ℕ → Judgement → Type 0
+abbrev pub AssignTold : List ℕ → ℕ → List ℕ → List ℕ → ℕ → ℕ → List ℕ → List ℕ → Result Pace Refusal → Type 0
 AssignTold doc k state work n m u v r =
     (scope : Environment) → Scoped state work n scope → (ds : Domains) → Pending work n m ds → (vs : Values) → SoFar doc k u vs →
     Told (Flowed (SoFar doc k v)) r (assign ds (turn_at doc k) scope vs)
 
-abbrev pub EachTold : List ℕ → ℕ → List ℕ → List ℕ → ℕ → ℕ → ℕ → ℕ → List ℕ → List ℕ → Judgement → Type 0
+abbrev pub EachTold : List ℕ → ℕ → List ℕ → List ℕ → ℕ → ℕ → ℕ → ℕ → List ℕ → List ℕ → Result Pace Refusal → Type 0
 EachTold doc k state work n m at c u v r =
     (scope : Environment) → Scoped state work n scope → (i : ℕ) (us : Values) (ds : Domains) → Pending work n (suc m) (domain i us ds) → (vs : Values) → RestIn work n at c vs →
     (ss : Values) → SoFar doc k u ss → Told (Flowed (SoFar doc k v)) r (each i vs (λ scope' s'. assign ds (turn_at doc k) scope' s') scope ss)
 
-abbrev pub BodyTold : List ℕ → ℕ → Body → List ℕ → List ℕ → ℕ → List ℕ → List ℕ → Judgement → Type 0
+abbrev pub BodyTold : List ℕ → ℕ → Body → List ℕ → List ℕ → ℕ → List ℕ → List ℕ → Result Pace Refusal → Type 0
 BodyTold doc k body state work n u v r =
     (scope : Environment) → Scoped state work n scope → (vs : Values) → SoFar doc k u vs → Told (Flowed (SoFar doc k v)) r (body scope vs)

@@ -16,7 +16,7 @@ ghost use Rattle.evaluator_rules.specs.Assignments.{Domains};
 ghost use Rattle.evaluator_rules.specs.Operations.{all_pass};
 ghost use Rattle.evaluator_rules.specs.Rules.{eval_expr, eval_exprs, eval_members, eval_pred, test, test_exprs};
 ghost use Rattle.evaluator_nodes.specs.Turns.{body_at, turn_at};
-ghost use Rattle.evaluator_operations.specs.Worked.{Holds, Told, Valued, Integral, Counted, Judged, SetIn, Grown, Joined, Tuples, Crossed};
+ghost use Rattle.evaluator_operations.specs.Worked.{Holds, Is, Told, Counted, Judged, SetIn, Grown, Joined, Tuples, Crossed};
 ghost use Rattle.evaluator_scope.specs.Blocks.{Scoped, Leaves};
 ghost use Rattle.evaluator_nodes.specs.Ready.{Ready, Handed, Operands, Scoping, Assigns, Tells, Rest, Evaluates, Decides, LinesTold, AssignTold, EachTold, BodyTold};
 
@@ -28,13 +28,12 @@ use evaluator_operations::collections::{
 };
 use evaluator_operations::enumerations::{crossed, multiplied, powered};
 use evaluator_operations::gathering::{GATHERED, gather, gathered, put_set};
-use evaluator_operations::logic::{Decision, decides, verdict};
-use evaluator_operations::numbers::{
-    arithmetic, at_most, integer_of, is_integer, number_operand, number_value, value_of,
-};
-use evaluator_operations::worked::{Judgement, Operand, Worked, go, halted, judge, refuse, stop};
+use evaluator_operations::logic::{decides, verdict};
+use evaluator_operations::numbers::{arithmetic, at_most, counted, is_integer, number, whole};
+use evaluator_operations::worked::{Flow, refusal};
 use evaluator_scope::{BLOCK, IN_WORK, put_domains, put_head, refer, refer_integer};
 use layout::part;
+use reader_rules::Refusal;
 use values::held::{Held, empty};
 use values::span::{HEAD, span};
 use words::{from, word};
@@ -50,19 +49,15 @@ fn parts(
     w: &[u32],
     i: usize,
     s: Held,
-) -> Worked
+) -> Result<Held, Refusal>
     requires { Handed doc.now work.old w.now expressions n k × Operands doc.now w.now k expressions i × (i ≤ 256) }
-    ensures { Leaves n work.old work.new ((ws : List ℕ) → s ≡ words ws → Tells state.now work.old n (Joined ws (length w.now - i) result.held) result.judgement (eval_exprs (exprs_from doc.now k i (length w.now - i)))) }
+    ensures { Leaves n work.old work.new ((ws : List ℕ) → s ≡ words ws → Tells state.now work.old n (Joined ws (length w.now - i)) result (eval_exprs (exprs_from doc.now k i (length w.now - i)))) }
 {
     if w.len() <= i {
-        return go(s, false);
+        return Ok(s);
     }
-    let x = expr(doc, state, work, n, word(w, i));
-    if x.judgement.number != 0 {
-        return x;
-    }
-    let h = x.held;
-    parts(doc, state, work, n, k, w, i + 1, joined(s, h))
+    let x = expr(doc, state, work, n, word(w, i))?;
+    parts(doc, state, work, n, k, w, i + 1, joined(s, x))
 }
 
 // The operands from i on as members, each added to the set s as it is worked out.
@@ -76,99 +71,109 @@ fn adds(
     w: &[u32],
     i: usize,
     s: &mut [u32],
-) -> Judgement
+) -> Result<(), Refusal>
     requires { Handed doc.now work.old w.now expressions n k × Operands doc.now w.now k expressions i × (i ≤ 256) }
     ensures { Leaves n work.old work.new ((vs : Values) → SetIn s.old vs → Tells state.now work.old n (Grown s.new) result (λ scope. eval_members (exprs_from doc.now k i (length w.now - i)) k scope vs)) }
 {
     if w.len() <= i {
-        return judge(false);
+        return Ok(());
     }
-    let x = expr(doc, state, work, n, word(w, i));
-    let j = x.judgement;
-    if j.number != 0 {
-        return j;
-    }
-    let h = x.held;
-    let t = gather(k, s, h);
-    if t.number != 0 {
-        return t;
-    }
+    let x = expr(doc, state, work, n, word(w, i))?;
+    gather(k, s, x)?;
     adds(doc, state, work, n, k, w, i + 1, s)
 }
 
 // 33 Set.
 #[cycle(adds_all_apply_arith_assign_below_body_compr_connect_display_each_each_part_expr_factors_lines_member_negate_parts_power_pred_product_quant_reckon_refers_same_subsets_tests_tuple_tuples_turn_value)]
-fn display(doc: &[u32], state: &[u32], work: &mut [u32], n: usize, k: usize, w: &[u32]) -> Worked
+fn display(
+    doc: &[u32],
+    state: &[u32],
+    work: &mut [u32],
+    n: usize,
+    k: usize,
+    w: &[u32],
+) -> Result<Held, Refusal>
     requires { Handed doc.now work.old w.now expressions n k × (kind_at doc.now k ≡ 33) }
     ensures { Evaluates doc.now k n state.now work.old work.new result }
 {
     let mut s = [0u32; GATHERED];
     put_set(&mut s, empty_set());
-    let x = adds(doc, state, work, n, k, w, 1, &mut s);
-    if x.number != 0 {
-        return halted(x);
-    }
-    go(gathered(&s), false)
+    adds(doc, state, work, n, k, w, 1, &mut s)?;
+    Ok(gathered(&s))
 }
 
 // 30 Ref.
 #[cycle(adds_all_apply_arith_assign_below_body_compr_connect_display_each_each_part_expr_factors_lines_member_negate_parts_power_pred_product_quant_reckon_refers_same_subsets_tests_tuple_tuples_turn_value)]
-fn refers(doc: &[u32], state: &[u32], work: &mut [u32], n: usize, k: usize, w: &[u32]) -> Worked
+fn refers(
+    doc: &[u32],
+    state: &[u32],
+    work: &mut [u32],
+    n: usize,
+    k: usize,
+    w: &[u32],
+) -> Result<Held, Refusal>
     requires { Handed doc.now work.old w.now expressions n k × (kind_at doc.now k ≡ 30) }
     ensures { Evaluates doc.now k n state.now work.old work.new result }
 {
     if w.len() <= 2 {
         return refer(state, &work[..], n, k, word(w, 1), false);
     }
-    let x = parts(doc, state, work, n, k, w, 2, empty());
-    if x.judgement.number != 0 {
-        return x;
-    }
+    parts(doc, state, work, n, k, w, 2, empty())?;
     refer(state, &work[..], n, k, word(w, 1), true)
 }
 
 // 34 Tuple.
 #[cycle(adds_all_apply_arith_assign_below_body_compr_connect_display_each_each_part_expr_factors_lines_member_negate_parts_power_pred_product_quant_reckon_refers_same_subsets_tests_tuple_tuples_turn_value)]
-fn tuple(doc: &[u32], state: &[u32], work: &mut [u32], n: usize, k: usize, w: &[u32]) -> Worked
+fn tuple(
+    doc: &[u32],
+    state: &[u32],
+    work: &mut [u32],
+    n: usize,
+    k: usize,
+    w: &[u32],
+) -> Result<Held, Refusal>
     requires { Handed doc.now work.old w.now expressions n k × (kind_at doc.now k ≡ 34) }
     ensures { Evaluates doc.now k n state.now work.old work.new result }
 {
-    let x = parts(doc, state, work, n, k, w, 1, tuple_head(w.len()));
-    if x.judgement.number != 0 {
-        return x;
-    }
-    let h = x.held;
-    kept(k, h)
+    let x = parts(doc, state, work, n, k, w, 1, tuple_head(w.len()))?;
+    kept(k, x)
 }
 
 // 36 Power as a value.
 #[cycle(adds_all_apply_arith_assign_below_body_compr_connect_display_each_each_part_expr_factors_lines_member_negate_parts_power_pred_product_quant_reckon_refers_same_subsets_tests_tuple_tuples_turn_value)]
-fn subsets(doc: &[u32], state: &[u32], work: &mut [u32], n: usize, k: usize, w: &[u32]) -> Worked
+fn subsets(
+    doc: &[u32],
+    state: &[u32],
+    work: &mut [u32],
+    n: usize,
+    k: usize,
+    w: &[u32],
+) -> Result<Held, Refusal>
     requires { Handed doc.now work.old w.now expressions n k × (kind_at doc.now k ≡ 36) }
     ensures { Evaluates doc.now k n state.now work.old work.new result }
 {
-    let x = expr(doc, state, work, n, word(w, 1));
-    if x.judgement.number != 0 {
-        return x;
-    }
-    let h = x.held;
-    powered(k, h)
+    let x = expr(doc, state, work, n, word(w, 1))?;
+    powered(k, x)
 }
 
 // 35 Product as a value.
 #[cycle(adds_all_apply_arith_assign_below_body_compr_connect_display_each_each_part_expr_factors_lines_member_negate_parts_power_pred_product_quant_reckon_refers_same_subsets_tests_tuple_tuples_turn_value)]
-fn tuples(doc: &[u32], state: &[u32], work: &mut [u32], n: usize, k: usize, w: &[u32]) -> Worked
+fn tuples(
+    doc: &[u32],
+    state: &[u32],
+    work: &mut [u32],
+    n: usize,
+    k: usize,
+    w: &[u32],
+) -> Result<Held, Refusal>
     requires { Handed doc.now work.old w.now expressions n k × (kind_at doc.now k ≡ 35) }
     ensures { Evaluates doc.now k n state.now work.old work.new result }
 {
-    let x = factors(doc, state, work, n, k, w, 1, unit(), false);
-    if x.judgement.number != 0 {
-        return x;
-    }
+    let x = factors(doc, state, work, n, k, w, 1, Some(unit()))?;
     multiplied(k, x)
 }
 
-// The operands from i on, each crossed with the tuples s of those before it; `misfit` says that one of those was no set.
+// The operands from i on, each crossed with the tuples s of those before it; None: one of those was no set.
 #[cycle(adds_all_apply_arith_assign_below_body_compr_connect_display_each_each_part_expr_factors_lines_member_negate_parts_power_pred_product_quant_reckon_refers_same_subsets_tests_tuple_tuples_turn_value)]
 fn factors(
     doc: &[u32],
@@ -178,84 +183,86 @@ fn factors(
     k: usize,
     w: &[u32],
     i: usize,
-    s: Held,
-    misfit: bool,
-) -> Worked
+    s: Option<Held>,
+) -> Result<Option<Held>, Refusal>
     requires { Handed doc.now work.old w.now expressions n k × Operands doc.now w.now k expressions i × (i ≤ 256) }
-    ensures { Leaves n work.old work.new ((rs : List Values) → Tuples s misfit rs → Tells state.now work.old n (Crossed misfit rs result.held) result.judgement (eval_exprs (exprs_from doc.now k i (length w.now - i)))) }
+    ensures { Leaves n work.old work.new ((rs : List Values) → Tuples s rs → Tells state.now work.old n (Crossed s rs) result (eval_exprs (exprs_from doc.now k i (length w.now - i)))) }
 {
     if w.len() <= i {
-        return go(s, misfit);
+        return Ok(s);
     }
-    let x = expr(doc, state, work, n, word(w, i));
-    if x.judgement.number != 0 {
-        return x;
-    }
-    let h = x.held;
-    let t = crossed(s, misfit, h);
-    factors(doc, state, work, n, k, w, i + 1, t.held, t.judgement.flag)
+    let x = expr(doc, state, work, n, word(w, i))?;
+    factors(doc, state, work, n, k, w, i + 1, crossed(s, x))
 }
 
 // 37 Apply.
 #[cycle(adds_all_apply_arith_assign_below_body_compr_connect_display_each_each_part_expr_factors_lines_member_negate_parts_power_pred_product_quant_reckon_refers_same_subsets_tests_tuple_tuples_turn_value)]
-fn apply(doc: &[u32], state: &[u32], work: &mut [u32], n: usize, k: usize, w: &[u32]) -> Worked
+fn apply(
+    doc: &[u32],
+    state: &[u32],
+    work: &mut [u32],
+    n: usize,
+    k: usize,
+    w: &[u32],
+) -> Result<Held, Refusal>
     requires { Handed doc.now work.old w.now expressions n k × (kind_at doc.now k ≡ 37) }
     ensures { Evaluates doc.now k n state.now work.old work.new result }
 {
-    let x = expr(doc, state, work, n, word(w, 1));
-    if x.judgement.number != 0 {
-        return x;
-    }
-    let y = expr(doc, state, work, n, word(w, 2));
-    if y.judgement.number != 0 {
-        return y;
-    }
-    let f = x.held;
-    let a = y.held;
-    applied(k, f, a)
+    let x = expr(doc, state, work, n, word(w, 1))?;
+    let y = expr(doc, state, work, n, word(w, 2))?;
+    applied(k, x, y)
 }
 
 // 41 to 45: arithmetic.
 #[cycle(adds_all_apply_arith_assign_below_body_compr_connect_display_each_each_part_expr_factors_lines_member_negate_parts_power_pred_product_quant_reckon_refers_same_subsets_tests_tuple_tuples_turn_value)]
-fn arith(doc: &[u32], state: &[u32], work: &mut [u32], n: usize, k: usize, w: &[u32]) -> Operand
+fn arith(
+    doc: &[u32],
+    state: &[u32],
+    work: &mut [u32],
+    n: usize,
+    k: usize,
+    w: &[u32],
+) -> Result<i32, Refusal>
     requires { Handed doc.now work.old w.now expressions n k × (41 ≤ kind_at doc.now k) × (kind_at doc.now k ≤ 45) }
-    ensures { Leaves n work.old work.new (Tells state.now work.old n (Counted result.integer) result.judgement (eval_expr (expr_at doc.now k))) }
+    ensures { Leaves n work.old work.new (Tells state.now work.old n Counted result (eval_expr (expr_at doc.now k))) }
 {
-    let x = reckon(doc, state, work, n, word(w, 1));
-    if x.judgement.number != 0 {
-        return x;
-    }
-    let y = reckon(doc, state, work, n, word(w, 2));
-    if y.judgement.number != 0 {
-        return y;
-    }
-    let a = x.integer;
-    let b = y.integer;
-    arithmetic(k, word(w, 0), a, b)
+    let x = reckon(doc, state, work, n, word(w, 1))?;
+    let y = reckon(doc, state, work, n, word(w, 2))?;
+    arithmetic(k, word(w, 0), x, y)
 }
 
 // 46 Comprehension.
 #[cycle(adds_all_apply_arith_assign_below_body_compr_connect_display_each_each_part_expr_factors_lines_member_negate_parts_power_pred_product_quant_reckon_refers_same_subsets_tests_tuple_tuples_turn_value)]
-fn compr(doc: &[u32], state: &[u32], work: &mut [u32], n: usize, k: usize, w: &[u32]) -> Worked
+fn compr(
+    doc: &[u32],
+    state: &[u32],
+    work: &mut [u32],
+    n: usize,
+    k: usize,
+    w: &[u32],
+) -> Result<Held, Refusal>
     requires { Handed doc.now work.old w.now expressions n k × (kind_at doc.now k ≡ 46) }
     ensures { Evaluates doc.now k n state.now work.old work.new result }
 {
     let t = word(w, 1);
     let mut s = [0u32; GATHERED];
     put_set(&mut s, empty_set());
-    let x = lines(doc, state, work, n, 0, k, t, part(doc, t), 2, &mut s);
-    if x.number != 0 {
-        return halted(x);
+    let x = lines(doc, state, work, n, 0, k, t, part(doc, t), 2, &mut s)?;
+    match x {
+        Flow::Halt => Ok(empty_set()),
+        Flow::Go => Ok(gathered(&s)),
     }
-    if x.flag {
-        return go(empty_set(), false);
-    }
-    go(gathered(&s), false)
 }
 
 // A Ref, and the predicate true below, return at once: joined with the other arms, they make a run of many assignments a fifth slower.
 #[cycle(adds_all_apply_arith_assign_below_body_compr_connect_display_each_each_part_expr_factors_lines_member_negate_parts_power_pred_product_quant_reckon_refers_same_subsets_tests_tuple_tuples_turn_value)]
-pub fn expr(doc: &[u32], state: &[u32], work: &mut [u32], n: usize, k: usize) -> Worked
+pub fn expr(
+    doc: &[u32],
+    state: &[u32],
+    work: &mut [u32],
+    n: usize,
+    k: usize,
+) -> Result<Held, Refusal>
     requires { Ready doc.now work.old expressions n k }
     ensures { Evaluates doc.now k n state.now work.old work.new result }
 {
@@ -263,23 +270,29 @@ pub fn expr(doc: &[u32], state: &[u32], work: &mut [u32], n: usize, k: usize) ->
     let q = word(w, 0);
     match q {
         kinds::REF => return refers(doc, state, work, n, k, w),
-        kinds::NUMBER => number_value(word(w, 1)),
+        kinds::NUMBER => Ok(whole(counted(word(w, 1)))),
         kinds::SET => display(doc, state, work, n, k, w),
         kinds::TUPLE => tuple(doc, state, work, n, k, w),
         kinds::PRODUCT => tuples(doc, state, work, n, k, w),
         kinds::POWER => subsets(doc, state, work, n, k, w),
         kinds::APPLY => apply(doc, state, work, n, k, w),
-        kinds::PLUS..=kinds::MOD => value_of(arith(doc, state, work, n, k, w)),
+        kinds::PLUS..=kinds::MOD => Ok(whole(arith(doc, state, work, n, k, w)?)),
         kinds::COMPREHENSION => compr(doc, state, work, n, k, w),
-        _ => stop(findings::NOT_RUN, k),
+        _ => Err(refusal(findings::NOT_RUN, k)),
     }
 }
 
 // An operand of arithmetic or of ≤: the integer that it is. A Number, a Ref without actuals and arithmetic need no value for it.
 #[cycle(adds_all_apply_arith_assign_below_body_compr_connect_display_each_each_part_expr_factors_lines_member_negate_parts_power_pred_product_quant_reckon_refers_same_subsets_tests_tuple_tuples_turn_value)]
-fn reckon(doc: &[u32], state: &[u32], work: &mut [u32], n: usize, k: usize) -> Operand
+fn reckon(
+    doc: &[u32],
+    state: &[u32],
+    work: &mut [u32],
+    n: usize,
+    k: usize,
+) -> Result<Option<i32>, Refusal>
     requires { Ready doc.now work.old expressions n k }
-    ensures { Leaves n work.old work.new (Tells state.now work.old n (Integral result.integer) result.judgement (eval_expr (expr_at doc.now k))) }
+    ensures { Leaves n work.old work.new (Tells state.now work.old n Is result (eval_expr (expr_at doc.now k))) }
 {
     let w = part(doc, k);
     let q = word(w, 0);
@@ -288,121 +301,134 @@ fn reckon(doc: &[u32], state: &[u32], work: &mut [u32], n: usize, k: usize) -> O
             if w.len() <= 2 {
                 return refer_integer(state, &work[..], n, k, word(w, 1));
             }
-            integer_of(refers(doc, state, work, n, k, w))
+            Ok(number(refers(doc, state, work, n, k, w)?))
         }
-        kinds::NUMBER => number_operand(word(w, 1)),
-        kinds::PLUS..=kinds::MOD => arith(doc, state, work, n, k, w),
-        _ => integer_of(expr(doc, state, work, n, k)),
+        kinds::NUMBER => Ok(Some(counted(word(w, 1)))),
+        kinds::PLUS..=kinds::MOD => Ok(Some(arith(doc, state, work, n, k, w)?)),
+        _ => Ok(number(expr(doc, state, work, n, k)?)),
     }
 }
 
 // 21 =.
 #[cycle(adds_all_apply_arith_assign_below_body_compr_connect_display_each_each_part_expr_factors_lines_member_negate_parts_power_pred_product_quant_reckon_refers_same_subsets_tests_tuple_tuples_turn_value)]
-fn same(doc: &[u32], state: &[u32], work: &mut [u32], n: usize, k: usize, w: &[u32]) -> Judgement
+fn same(
+    doc: &[u32],
+    state: &[u32],
+    work: &mut [u32],
+    n: usize,
+    k: usize,
+    w: &[u32],
+) -> Result<bool, Refusal>
     requires { Handed doc.now work.old w.now predicates n k × (kind_at doc.now k ≡ 21) }
     ensures { Decides doc.now k n state.now work.old work.new result }
 {
-    let x = expr(doc, state, work, n, word(w, 1));
-    let i = x.judgement;
-    if i.number != 0 {
-        return i;
-    }
-    let y = expr(doc, state, work, n, word(w, 2));
-    let j = y.judgement;
-    if j.number != 0 {
-        return j;
-    }
-    let a = x.held;
-    let b = y.held;
-    equal(a, b)
+    let x = expr(doc, state, work, n, word(w, 1))?;
+    let y = expr(doc, state, work, n, word(w, 2))?;
+    Ok(equal(x, y))
 }
 
 // 22 member.
 #[cycle(adds_all_apply_arith_assign_below_body_compr_connect_display_each_each_part_expr_factors_lines_member_negate_parts_power_pred_product_quant_reckon_refers_same_subsets_tests_tuple_tuples_turn_value)]
-fn member(doc: &[u32], state: &[u32], work: &mut [u32], n: usize, k: usize, w: &[u32]) -> Judgement
+fn member(
+    doc: &[u32],
+    state: &[u32],
+    work: &mut [u32],
+    n: usize,
+    k: usize,
+    w: &[u32],
+) -> Result<bool, Refusal>
     requires { Handed doc.now work.old w.now predicates n k × (kind_at doc.now k ≡ 22) }
     ensures { Decides doc.now k n state.now work.old work.new result }
 {
-    let x = expr(doc, state, work, n, word(w, 1));
-    let j = x.judgement;
-    if j.number != 0 {
-        return j;
-    }
-    let h = x.held;
-    tests(doc, state, work, n, word(w, 2), h)
+    let x = expr(doc, state, work, n, word(w, 1))?;
+    tests(doc, state, work, n, word(w, 2), x)
 }
 
 // 23 ≤.
 #[cycle(adds_all_apply_arith_assign_below_body_compr_connect_display_each_each_part_expr_factors_lines_member_negate_parts_power_pred_product_quant_reckon_refers_same_subsets_tests_tuple_tuples_turn_value)]
-fn below(doc: &[u32], state: &[u32], work: &mut [u32], n: usize, k: usize, w: &[u32]) -> Judgement
+fn below(
+    doc: &[u32],
+    state: &[u32],
+    work: &mut [u32],
+    n: usize,
+    k: usize,
+    w: &[u32],
+) -> Result<bool, Refusal>
     requires { Handed doc.now work.old w.now predicates n k × (kind_at doc.now k ≡ 23) }
     ensures { Decides doc.now k n state.now work.old work.new result }
 {
-    let x = reckon(doc, state, work, n, word(w, 1));
-    let i = x.judgement;
-    if i.number != 0 {
-        return i;
-    }
-    let y = reckon(doc, state, work, n, word(w, 2));
-    let j = y.judgement;
-    if j.number != 0 {
-        return j;
-    }
-    let a = x.integer;
-    let b = y.integer;
-    at_most(k, a, b)
+    let x = reckon(doc, state, work, n, word(w, 1))?;
+    let y = reckon(doc, state, work, n, word(w, 2))?;
+    at_most(k, x, y)
 }
 
 // 24 not.
 #[cycle(adds_all_apply_arith_assign_below_body_compr_connect_display_each_each_part_expr_factors_lines_member_negate_parts_power_pred_product_quant_reckon_refers_same_subsets_tests_tuple_tuples_turn_value)]
-fn negate(doc: &[u32], state: &[u32], work: &mut [u32], n: usize, k: usize, w: &[u32]) -> Judgement
+fn negate(
+    doc: &[u32],
+    state: &[u32],
+    work: &mut [u32],
+    n: usize,
+    k: usize,
+    w: &[u32],
+) -> Result<bool, Refusal>
     requires { Handed doc.now work.old w.now predicates n k × (kind_at doc.now k ≡ 24) }
     ensures { Decides doc.now k n state.now work.old work.new result }
 {
-    let x = pred(doc, state, work, n, word(w, 1));
-    if x.number != 0 {
-        return x;
-    }
-    if x.flag {
-        return judge(false);
-    }
-    judge(true)
+    let x = pred(doc, state, work, n, word(w, 1))?;
+    Ok(!x)
 }
 
 // 25 to 27: and, or, implies skip the right side when the left decides.
 #[cycle(adds_all_apply_arith_assign_below_body_compr_connect_display_each_each_part_expr_factors_lines_member_negate_parts_power_pred_product_quant_reckon_refers_same_subsets_tests_tuple_tuples_turn_value)]
-fn connect(doc: &[u32], state: &[u32], work: &mut [u32], n: usize, k: usize, w: &[u32]) -> Judgement
+fn connect(
+    doc: &[u32],
+    state: &[u32],
+    work: &mut [u32],
+    n: usize,
+    k: usize,
+    w: &[u32],
+) -> Result<bool, Refusal>
     requires { Handed doc.now work.old w.now predicates n k × (25 ≤ kind_at doc.now k) × (kind_at doc.now k ≤ 27) }
     ensures { Decides doc.now k n state.now work.old work.new result }
 {
-    let x = pred(doc, state, work, n, word(w, 1));
-    if x.number != 0 {
-        return x;
-    }
-    let d = decides(word(w, 0), x.flag);
-    match d {
-        Decision::Known(b) => judge(b),
-        Decision::Right => pred(doc, state, work, n, word(w, 2)),
+    let x = pred(doc, state, work, n, word(w, 1))?;
+    match decides(word(w, 0), x) {
+        Some(b) => Ok(b),
+        None => pred(doc, state, work, n, word(w, 2)),
     }
 }
 
 // 28 forall, 29 exists.
 #[cycle(adds_all_apply_arith_assign_below_body_compr_connect_display_each_each_part_expr_factors_lines_member_negate_parts_power_pred_product_quant_reckon_refers_same_subsets_tests_tuple_tuples_turn_value)]
-fn quant(doc: &[u32], state: &[u32], work: &mut [u32], n: usize, k: usize, w: &[u32]) -> Judgement
+fn quant(
+    doc: &[u32],
+    state: &[u32],
+    work: &mut [u32],
+    n: usize,
+    k: usize,
+    w: &[u32],
+) -> Result<bool, Refusal>
     requires { Handed doc.now work.old w.now predicates n k × (28 ≤ kind_at doc.now k) × (kind_at doc.now k ≤ 29) }
     ensures { Decides doc.now k n state.now work.old work.new result }
 {
     let t = word(w, 1);
     let mut none = [0u32; 0];
-    let x = lines(doc, state, work, n, 0, k, t, part(doc, t), 2, &mut none);
-    if x.number != 0 {
-        return x;
+    let x = lines(doc, state, work, n, 0, k, t, part(doc, t), 2, &mut none)?;
+    match x {
+        Flow::Halt => Ok(verdict(word(w, 0), true)),
+        Flow::Go => Ok(verdict(word(w, 0), false)),
     }
-    judge(verdict(word(w, 0), x.flag))
 }
 
 #[cycle(adds_all_apply_arith_assign_below_body_compr_connect_display_each_each_part_expr_factors_lines_member_negate_parts_power_pred_product_quant_reckon_refers_same_subsets_tests_tuple_tuples_turn_value)]
-pub fn pred(doc: &[u32], state: &[u32], work: &mut [u32], n: usize, k: usize) -> Judgement
+pub fn pred(
+    doc: &[u32],
+    state: &[u32],
+    work: &mut [u32],
+    n: usize,
+    k: usize,
+) -> Result<bool, Refusal>
     requires { Ready doc.now work.old predicates n k }
     ensures { Decides doc.now k n state.now work.old work.new result }
 {
@@ -415,13 +441,20 @@ pub fn pred(doc: &[u32], state: &[u32], work: &mut [u32], n: usize, k: usize) ->
         kinds::NOT => negate(doc, state, work, n, k, w),
         kinds::AND..=kinds::IMPLIES => connect(doc, state, work, n, k, w),
         kinds::FORALL..=kinds::EXISTS => quant(doc, state, work, n, k, w),
-        _ => return judge(true),
+        _ => return Ok(true),
     }
 }
 
 // Member's test of the value v against the expression at node k.
 #[cycle(adds_all_apply_arith_assign_below_body_compr_connect_display_each_each_part_expr_factors_lines_member_negate_parts_power_pred_product_quant_reckon_refers_same_subsets_tests_tuple_tuples_turn_value)]
-pub fn tests(doc: &[u32], state: &[u32], work: &mut [u32], n: usize, k: usize, v: Held) -> Judgement
+pub fn tests(
+    doc: &[u32],
+    state: &[u32],
+    work: &mut [u32],
+    n: usize,
+    k: usize,
+    v: Held,
+) -> Result<bool, Refusal>
     requires { Ready doc.now work.old expressions n k }
     ensures { Leaves n work.old work.new ((x : Value) → Holds v x → Tells state.now work.old n Judged result (λ scope. test (expr_at doc.now k) scope x)) }
 {
@@ -437,17 +470,19 @@ pub fn tests(doc: &[u32], state: &[u32], work: &mut [u32], n: usize, k: usize, v
 
 // Against any other E: it is worked out anew and must be a set.
 #[cycle(adds_all_apply_arith_assign_below_body_compr_connect_display_each_each_part_expr_factors_lines_member_negate_parts_power_pred_product_quant_reckon_refers_same_subsets_tests_tuple_tuples_turn_value)]
-fn value(doc: &[u32], state: &[u32], work: &mut [u32], n: usize, k: usize, v: Held) -> Judgement
+fn value(
+    doc: &[u32],
+    state: &[u32],
+    work: &mut [u32],
+    n: usize,
+    k: usize,
+    v: Held,
+) -> Result<bool, Refusal>
     requires { Ready doc.now work.old expressions n k × (kind_at doc.now k ≡ 32 → ⊥) × (kind_at doc.now k ≡ 35 → ⊥) × (kind_at doc.now k ≡ 36 → ⊥) }
     ensures { Leaves n work.old work.new ((x : Value) → Holds v x → Tells state.now work.old n Judged result (λ scope. test (expr_at doc.now k) scope x)) }
 {
-    let x = expr(doc, state, work, n, k);
-    let j = x.judgement;
-    if j.number != 0 {
-        return j;
-    }
-    let h = x.held;
-    among(k, v, h)
+    let x = expr(doc, state, work, n, k)?;
+    among(k, v, x)
 }
 
 // 36 Power: a set whose members pass.
@@ -460,12 +495,12 @@ fn power(
     k: usize,
     w: &[u32],
     v: Held,
-) -> Judgement
+) -> Result<bool, Refusal>
     requires { Handed doc.now work.old w.now expressions n k × (kind_at doc.now k ≡ 36) }
     ensures { Leaves n work.old work.new ((x : Value) → Holds v x → Tells state.now work.old n Judged result (λ scope. test (expr_at doc.now k) scope x)) }
 {
     if tag_of(v) != value_tags::SET {
-        return refuse(findings::MISFIT, k);
+        return Err(refusal(findings::MISFIT, k));
     }
     all(doc, state, work, n, word(w, 1), v, HEAD, count_of(v))
 }
@@ -481,22 +516,19 @@ fn all(
     v: Held,
     at: usize,
     c: usize,
-) -> Judgement
+) -> Result<bool, Refusal>
     requires { Ready doc.now work.old expressions n k × (at + 96 * c < 2 ^ 60) × (c < 2 ^ 32) }
     ensures { Leaves n work.old work.new ((vs : Values) → Rest v at c vs → Tells state.now work.old n Judged result (λ scope. all_pass vs (test (expr_at doc.now k) scope))) }
 {
     if c == 0 {
-        return judge(true);
+        return Ok(true);
     }
     let len = length_at(v, at);
-    let x = tests(doc, state, work, n, k, member_at(v, at, len));
-    if x.number != 0 {
-        return x;
-    }
-    if x.flag {
+    let x = tests(doc, state, work, n, k, member_at(v, at, len))?;
+    if x {
         return all(doc, state, work, n, k, v, at + len, c - 1);
     }
-    x
+    Ok(false)
 }
 
 // 35 Product: a tuple of that many parts that pass.
@@ -509,15 +541,15 @@ fn product(
     k: usize,
     w: &[u32],
     v: Held,
-) -> Judgement
+) -> Result<bool, Refusal>
     requires { Handed doc.now work.old w.now expressions n k × (kind_at doc.now k ≡ 35) }
     ensures { Leaves n work.old work.new ((x : Value) → Holds v x → Tells state.now work.old n Judged result (λ scope. test (expr_at doc.now k) scope x)) }
 {
     if tag_of(v) != value_tags::TUPLE {
-        return refuse(findings::MISFIT, k);
+        return Err(refusal(findings::MISFIT, k));
     }
     if count_of(v) + 1 != w.len() {
-        return refuse(findings::MISFIT, k);
+        return Err(refusal(findings::MISFIT, k));
     }
     each_part(doc, state, work, n, k, w, 1, v, HEAD)
 }
@@ -534,22 +566,19 @@ fn each_part(
     i: usize,
     v: Held,
     at: usize,
-) -> Judgement
+) -> Result<bool, Refusal>
     requires { Handed doc.now work.old w.now expressions n k × Operands doc.now w.now k expressions i × (i ≤ 256) × (at + 96 * (256 - i) < 2 ^ 60) }
     ensures { Leaves n work.old work.new ((vs : Values) → Rest v at (length w.now - i) vs → Tells state.now work.old n Judged result (λ scope. test_exprs (exprs_from doc.now k i (length w.now - i)) vs scope)) }
 {
     if w.len() <= i {
-        return judge(true);
+        return Ok(true);
     }
     let len = length_at(v, at);
-    let x = tests(doc, state, work, n, word(w, i), member_at(v, at, len));
-    if x.number != 0 {
-        return x;
-    }
-    if x.flag {
+    let x = tests(doc, state, work, n, word(w, i), member_at(v, at, len))?;
+    if x {
         return each_part(doc, state, work, n, k, w, i + 1, v, at + len);
     }
-    x
+    Ok(false)
 }
 
 // The lines of Text t, with the words u, from i on: their sets, in blocks above the n in scope and the m of the lines before. Then the assignments.
@@ -565,7 +594,7 @@ fn lines(
     u: &[u32],
     i: usize,
     s: &mut [u32],
-) -> Judgement
+) -> Result<Flow, Refusal>
     requires { Scoping doc.now work.old n 6 k × (t ≡ operand_at doc.now k 1) × (u.now ≡ part doc.now t) × (2 ≤ i) × (length u.now ≤ 256) × (m + declared_count (lines_from doc.now t i (length u.now - i)) ≤ 6) }
     ensures { Leaves n work.old work.new (LinesTold doc.now k (lines_from doc.now t i (length u.now - i)) state.now work.old n m s.old s.new result) }
 {
@@ -575,18 +604,13 @@ fn lines(
     let v = word(u, i);
     let x = part(doc, v);
     if word(x, 0) == kinds::INCLUDE {
-        return refuse(findings::NOT_RUN, v);
+        return Err(refusal(findings::NOT_RUN, v));
     }
-    let y = expr(doc, state, work, n + m, word(x, 1));
-    let j = y.judgement;
-    if j.number != 0 {
-        return j;
+    let y = expr(doc, state, work, n + m, word(x, 1))?;
+    if tag_of(y) != value_tags::SET {
+        return Err(refusal(findings::MISFIT, v));
     }
-    let h = y.held;
-    if tag_of(h) != value_tags::SET {
-        return refuse(findings::MISFIT, v);
-    }
-    put_domains(work, n + m, x, 2, h);
+    put_domains(work, n + m, x, 2, y);
     lines(doc, state, work, n, m + (x.len() - 2), k, t, u, i + 1, s)
 }
 
@@ -600,7 +624,7 @@ fn assign(
     m: usize,
     k: usize,
     s: &mut [u32],
-) -> Judgement
+) -> Result<Flow, Refusal>
     requires { Scoping doc.now work.old n m k }
     ensures { Assigns n m work.old work.new (AssignTold doc.now k state.now work.old n m s.old s.new result) }
 {
@@ -622,30 +646,25 @@ fn each(
     k: usize,
     c: usize,
     s: &mut [u32],
-) -> Judgement
+) -> Result<Flow, Refusal>
     requires { Scoping doc.now work.old n (m + 1) k × (c < 2 ^ 32) }
     ensures { Assigns n (m + 1) work.old work.new (EachTold doc.now k state.now work.old n m 2 c s.old s.new result) }
 {
     let mut at = HEAD;
-    let mut left = c;
-    while 0 < left {
+    for i in 0..c {
         if limits::VALUE < at {
-            return judge(false);
+            return Ok(Flow::Go);
         }
         let here = BLOCK * n + (evaluator_scope::HEAD + at);
         let len = span(from(work, here));
         put_head(work, n, word(work, BLOCK * n), IN_WORK, here, len);
-        let x = assign(doc, state, work, n + 1, m, k, s);
-        if x.number != 0 {
-            return x;
+        let x = assign(doc, state, work, n + 1, m, k, s)?;
+        match x {
+            Flow::Halt => return Ok(Flow::Halt),
+            Flow::Go => at += len,
         }
-        if x.flag {
-            return x;
-        }
-        at += len;
-        left -= 1;
     }
-    judge(false)
+    Ok(Flow::Go)
 }
 
 // One assignment: the body, where the Text's predicate is true.
@@ -657,19 +676,16 @@ fn turn(
     n: usize,
     k: usize,
     s: &mut [u32],
-) -> Judgement
+) -> Result<Flow, Refusal>
     requires { Scoping doc.now work.old n 0 k }
     ensures { Leaves n work.old work.new (BodyTold doc.now k (turn_at doc.now k) state.now work.old n s.old s.new result) }
 {
     let t = word(part(doc, k), 1);
-    let x = pred(doc, state, work, n, word(part(doc, t), 1));
-    if x.number != 0 {
-        return x;
-    }
-    if x.flag {
+    let x = pred(doc, state, work, n, word(part(doc, t), 1))?;
+    if x {
         return body(doc, state, work, n, k, s, part(doc, k));
     }
-    judge(false)
+    Ok(Flow::Go)
 }
 
 // The body: a Comprehension adds its value, a quantifier stops where it is decided.
@@ -682,23 +698,19 @@ fn body(
     k: usize,
     s: &mut [u32],
     w: &[u32],
-) -> Judgement
+) -> Result<Flow, Refusal>
     requires { Scoping doc.now work.old n 0 k × (w.now ≡ part doc.now k) }
     ensures { Leaves n work.old work.new (BodyTold doc.now k (body_at doc.now k) state.now work.old n s.old s.new result) }
 {
     let b = word(w, 2);
     if word(w, 0) == kinds::COMPREHENSION {
-        let x = expr(doc, state, work, n, b);
-        let j = x.judgement;
-        if j.number != 0 {
-            return j;
-        }
-        let h = x.held;
-        return gather(k, s, h);
+        let x = expr(doc, state, work, n, b)?;
+        gather(k, s, x)?;
+        return Ok(Flow::Go);
     }
-    let y = pred(doc, state, work, n, b);
-    if y.number != 0 {
-        return y;
+    let y = pred(doc, state, work, n, b)?;
+    if verdict(word(w, 0), y) {
+        return Ok(Flow::Halt);
     }
-    judge(verdict(word(w, 0), y.flag))
+    Ok(Flow::Go)
 }

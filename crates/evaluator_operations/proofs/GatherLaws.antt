@@ -6,7 +6,6 @@ use native.Mathlib.Omega.{arith}
 use lib.ListN.{length, get_or, set, take, drop, replicate, length-append, length-replicate, length-set, length-take}
 use lib.Seq.{sets, sets-eq, length-sets, take-append-le, take_at, drop_at, get_or-set_same, take-set-le}
 use Rattle.values.specs.Value.{Value, Values, encode}
-use Rattle.values.specs.Value as Value
 use Rattle.values.specs.declared.held.Held.{Held}
 use Rattle.values.proofs.Holding.{held_words, held_len}
 use Rattle.evaluator_operations.specs.Worked.{Holds, SetIn}

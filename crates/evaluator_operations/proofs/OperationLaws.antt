@@ -8,94 +8,83 @@ use lib.Signed.{le_z}
 use lib.IntN.{ℤ}
 use lib.ListN.{length, get_or, take, drop}
 use borrow.Author.Tests.{le-leb, lt-leb}
+use mir.Syntax.{w32}
+use mir.Val.{to_z, of_z}
+use mir.ValLaws.{to_z-of_z}
 use Rattle.values_integers.specs.Integer.{in32}
+use Rattle.values.proofs.Unique.{fits32}
 use Rattle.values.specs.Value.{Value, int, element, set, tuple, Values, nil, cons, encode}
 use Rattle.values.specs.Held.{keep as words}
 use Rattle.values.specs.Numbers.{number_of}
 use Rattle.values.specs.Sets.{apply}
 use Rattle.values.specs.Order.{compare}
-use Rattle.values.specs.declared.order.Order.{Order}
-use Rattle.values.specs.declared.order.Order.TheVariants.{Less, Same, Greater}
-use Rattle.values.specs.declared.sets.Applied.{Applied}
-use Rattle.values.specs.declared.sets.Applied.TheVariants.{Found, Undefined}
-use Rattle.values.specs.declared.sets.Applied.TheVariants as Sets
+use Rattle.std.specs.declared.cmp.Ordering.{Ordering}
+use Rattle.std.specs.declared.cmp.Ordering.TheVariants.{Less, Equal, Greater}
+use Rattle.values.specs.Applied.{Applied, Found, Undefined}
+use Rattle.values.specs.Applied as Sets
 use Rattle.values.proofs.Applying.{Shows, apply_value_lem}
 use Rattle.reader_rules.specs.Tree.{plus, minus, times, quotient, remainder, and, or, implies, forall, exists}
 use Rattle.reader_rules.specs.Decode.{operator_of, connective_of, quantifier_of}
-use Rattle.evaluator_operations.specs.declared.logic.Decision.TheVariants.{Known, Right}
 use Rattle.evaluator_operations.specs.Steps.{decision_of, verdict_of, arithmetic_of, at_most_of, integer_test, image_of}
 use Rattle.evaluator_rules.specs.Rules.{among_members}
 use Rattle.evaluator_operations.proofs.ToldLaws.{at_stop, at_pure}
 use Rattle.values.specs.SetValues.{is_in, insert_value, insert_by, Image, found, misfit, undefined, apply_value}
 use Rattle.values.specs.declared.held.Held.{Held}
-use Rattle.values.specs.declared.numbers.Number.{Number}
-use Rattle.values.specs.declared.numbers.Number.TheVariants.{Integer, Misfit}
 use Rattle.values.proofs.Holding.{held_part, held_words}
 use Rattle.values.proofs.IntegerValues.{number_value}
 use Rattle.words.proofs.Loops.{and_left, and_right}
 use Rattle.evaluator_rules.specs.WordCount.{word_count}
-use Rattle.evaluator_rules.specs.Outcomes.{Outcome, ◌>>=◌, pure, stop, keep_if, keep}
+use Rattle.evaluator_rules.specs.Outcomes.{◌>>=◌, pure, stop, keep_if, keep}
 use Rattle.evaluator_rules.specs.Operations.{as_integer, as_set, as_tuple, add_if, add, image, find_pair, keep_integer, calculate}
 use Rattle.evaluator_rules.specs.Applications.{pair, Among, here, later}
 use Rattle.evaluator_rules.proofs.Images.{Finds, finds_one, finds, found_among, applied_words}
-use Rattle.evaluator_operations.specs.declared.worked.Judgement.{Judgement}
-use Rattle.evaluator_operations.specs.Worked.{narrow, all_narrow, Holds, Told, fine, ceased, Valued, Integral, Counted, Judged, Stops}
+use Rattle.std.proofs.Common.{Some, None, Result, Ok, Err}
+use Rattle.reader_rules.specs.declared.Refusal.{Refusal}
+use Rattle.evaluator_operations.specs.Worked.{narrow, all_narrow, Holds, Is, Told, fine, ceased, Counted, Judged, Stops}
 
 -- the words that are held
 pub held_whole : (h : Held) (v : Value) → Holds h v → take h.len h.words ≡ encode v
 held_whole h v g = held_part h (encode v) g.words g.short
 
 -- a value that is complete
-pub keep_told : (k : ℕ) (v : Value) {R : Judgement → Value → Type 0} (r : Judgement) → r.number ≡ 0 → length (encode v) ≤ 64 → R r v → Told R r (keep k v)
+pub keep_told : (k : ℕ) (v : Value) {C : Type 0} {R : C → Value → Type 0} {b : C} → length (encode v) ≤ 64 → R b v → Told R (Ok b) (keep k v)
 unfolding keep keep_if word_count
-keep_told k v r z l g = rw (le-leb (length (encode v)) 64 l) (fine z g)
+keep_told k v l g = rw (le-leb (length (encode v)) 64 l) (fine g)
 
-pub keep_fine : (k : ℕ) (v : Value) {h : Held} (r : Judgement) → r.number ≡ 0 → Holds h v → Told (Valued h) r (keep k v)
-keep_fine k v r z g = keep_told k v r z g.short (record { held = g })
+pub keep_fine : (k : ℕ) (v : Value) {h : Held} → Holds h v → Told Holds (Ok h) (keep k v)
+keep_fine k v g = keep_told k v g.short g
 
-pub keep_over : (k : ℕ) (v : Value) {h : Held} (r : Judgement) → Stops r 55 k → 64 < length (encode v) → Told (Valued h) r (keep k v)
+pub keep_over : (k : ℕ) (v : Value) {f : Refusal} → Stops f 55 k → 64 < length (encode v) → Told Holds (Err f) (keep k v)
 unfolding keep keep_if word_count
-keep_over k v r s h = rw (lt-leb (length (encode v)) 64 h) (ceased s.number s.place (λ e. omega arith))
+keep_over k v s h = rw (lt-leb (length (encode v)) 64 h) (ceased s.number s.place (λ e. omega arith))
 
 -- what a value is as an integer
-pub integer_yes : (k : ℕ) (x : Value) → narrow x ≡ true → (z : ℤ) → Integer z ≡ number_of (encode x) → as_integer k x ≡ pure z
+pub integer_yes : (k : ℕ) (x : Value) → narrow x ≡ true → (z : ℤ) → Some z ≡ number_of (encode x) → as_integer k x ≡ pure z
 unfolding as_integer narrow number_of encode
 integer_yes k (int y) h z e = let q : y ≡ z = cc (number_value y h) in rw q
 integer_yes k (element g j) h z e = let q : ◌≡◌ {A = ℕ} 0 1 = cc in absurd (omega arith)
 integer_yes k (set vs) h z e = let q : ◌≡◌ {A = ℕ} 0 1 = cc in absurd (omega arith)
 integer_yes k (tuple vs) h z e = let q : ◌≡◌ {A = ℕ} 0 1 = cc in absurd (omega arith)
 
-pub integer_no : (k : ℕ) (x : Value) → Misfit ≡ number_of (encode x) → as_integer k x ≡ stop 51 k
+pub integer_no : (k : ℕ) (x : Value) → None ≡ number_of (encode x) → as_integer k x ≡ stop 51 k
 unfolding as_integer number_of encode
 integer_no k (int y) e = let q : ◌≡◌ {A = ℕ} 0 1 = cc in absurd (omega arith)
 integer_no k (element g j) e = refl
 integer_no k (set vs) e = refl
 integer_no k (tuple vs) e = refl
 
--- an integer is what it counts, and held it is a value
-pub counted_integral : {z : Number} {r : Judgement} {o : Outcome Value} → Told (Counted z) r o → Told (Integral z) r o
+-- an integer is what it counts
+pub counted_is : (z : ℤ) (v : Value) → Counted z v → Is (Some z) v
 unfolding narrow number_of encode
-counted_integral (fine {a = v} z c) =
-    fine z (record { held = record { integer = c.integer ∙ sym (number_value c.count c.narrow) ∙ ap (λ (u : Value). number_of (encode u)) (sym c.value); narrow = ap narrow c.value ∙ c.narrow } })
-counted_integral (ceased a b c) = ceased a b c
+counted_is z v c = record { integer = sym (number_value z c.narrow) ∙ ap (λ (u : Value). number_of (encode u)) (sym c.value); narrow = ap narrow c.value ∙ c.narrow }
 
-pub valued_integral : {h : Held} {z : Number} {r : Judgement} {o : Outcome Value} → ((x : Value) → Holds h x → z ≡ number_of (encode x)) → Told (Valued h) r o → Told (Integral z) r o
-valued_integral e (fine {a = v} z g) = fine z (record { held = record { integer = e v g.held; narrow = g.held.narrow } })
-valued_integral e (ceased a b c) = ceased a b c
+-- an integer that a function took
+pub counted_word : (z : ℤ) (v : Value) → Counted z v → Counted (to_z w32 (of_z w32 z)) v
+counted_word z v c = rw (to_z-of_z w32 z (fits32 z c.narrow)) c
 
-pub counted_kept : (k : ℕ) (i : ℤ) (z : Number) (r : Judgement) → z ≡ Integer i → in32 i ≡ true → r.number ≡ 0 → Told (Counted z) r (keep k (int i))
+pub counted_kept : (k : ℕ) (i : ℤ) → in32 i ≡ true → Told Counted (Ok i) (keep k (int i))
 unfolding keep keep_if word_count encode
-counted_kept k i z r e h n = fine n (record { count = i; integer = e; value = refl; narrow = h })
-
-pub counted_valued : {z : Number} {h : Held} {r s : Judgement} {o : Outcome Value} (i : ℤ) → Told (Counted z) r o → r.number ≡ 0 → z ≡ Integer i → Valued h s (int i) → s.number ≡ 0 → Told (Valued h) s o
-counted_valued {h = h} {s = s} i (fine {a = v} n c) y e g m =
-    let q : c.count ≡ i = cc c.integer in
-    fine m (subst (Valued h s) (sym (c.value ∙ ap int q)) g)
-counted_valued i (ceased a b c) y e g m = absurd (c (sym a ∙ y))
-
-pub counted_some : {z : Number} {r : Judgement} {o : Outcome Value} → Told (Counted z) r o → r.number ≡ 0 → z ≡ Misfit → ⊥
-counted_some (fine n c) y e = let w = c.integer in let q : ◌≡◌ {A = ℕ} 0 1 = cc in absurd (omega arith)
-counted_some (ceased a b c) y e = c (sym a ∙ y)
+counted_kept k i h = fine (record { value = refl; narrow = h })
 
 -- the tag of a value's words says its sort
 pub tag_set : (k : ℕ) (x : Value) → get_or (encode x) 0 0 ≡ 3 → (vs : Values) × (x ≡ set vs)
@@ -150,68 +139,69 @@ unfolding narrow
 narrow_cons v vs p q = both_narrow (narrow v) (all_narrow vs) p q
 
 -- arithmetic, ≤ and ℤ's test, by the integers that the values are
-module _ (k q : ℕ) (x y : Value) (r : Judgement) where
-  pub arithmetic_left : {R : Judgement → Value → Type 0} → Misfit ≡ number_of (encode x) → Stops r 51 k → Told R r (arithmetic_of k q x y)
-  unfolding arithmetic_of
-  arithmetic_left e s = rw (integer_no k x e) (at_stop _ s (λ z. omega arith))
+module _ (k q : ℕ) (x y : Value) where
+  module _ {f : Refusal} (s : Stops f 51 k) where
+    pub arithmetic_left : None ≡ number_of (encode x) → Told Counted (Err f) (arithmetic_of k q x y)
+    unfolding arithmetic_of
+    arithmetic_left e = rw (integer_no k x e) (at_stop _ s (λ z. omega arith))
 
-  pub arithmetic_right : {R : Judgement → Value → Type 0} → narrow x ≡ true → (i : ℤ) → Integer i ≡ number_of (encode x) → Misfit ≡ number_of (encode y) → Stops r 51 k → Told R r (arithmetic_of k q x y)
-  unfolding arithmetic_of
-  arithmetic_right h i e f s = rw (integer_yes k x h i e) (at_pure _ _ (rw (integer_no k y f) (at_stop _ s (λ z. omega arith))))
+    pub arithmetic_right : narrow x ≡ true → (i : ℤ) → Some i ≡ number_of (encode x) → None ≡ number_of (encode y) → Told Counted (Err f) (arithmetic_of k q x y)
+    unfolding arithmetic_of
+    arithmetic_right h i e g = rw (integer_yes k x h i e) (at_pure _ _ (rw (integer_no k y g) (at_stop _ s (λ z. omega arith))))
 
-  pub arithmetic_both : {R : Judgement → Value → Type 0} → narrow x ≡ true → narrow y ≡ true → (i j : ℤ) → Integer i ≡ number_of (encode x) → Integer j ≡ number_of (encode y)
-      → Told R r (keep_integer k (calculate (operator_of q) i j)) → Told R r (arithmetic_of k q x y)
+    pub at_most_left : None ≡ number_of (encode x) → Told Judged (Err f) (at_most_of k x y)
+    unfolding at_most_of
+    at_most_left e = rw (integer_no k x e) (at_stop _ s (λ z. omega arith))
+
+    pub at_most_right : narrow x ≡ true → (i : ℤ) → Some i ≡ number_of (encode x) → None ≡ number_of (encode y) → Told Judged (Err f) (at_most_of k x y)
+    unfolding at_most_of
+    at_most_right h i e g = rw (integer_yes k x h i e) (at_pure _ _ (rw (integer_no k y g) (at_stop _ s (λ z. omega arith))))
+
+    pub test_other : None ≡ number_of (encode x) → Told Judged (Err f) (integer_test k x)
+    unfolding integer_test
+    test_other e = rw (integer_no k x e) (at_stop _ s (λ z. omega arith))
+
+    pub among_other : (get_or (encode y) 0 0 ≡ 3 → ⊥) → Told Judged (Err f) (among_members k x y)
+    unfolding among_members
+    among_other e = rw (tag_none k y e) (at_stop _ s (λ z. omega arith))
+
+  pub arithmetic_both : {r : Result ℤ Refusal} → narrow x ≡ true → narrow y ≡ true → (i j : ℤ) → Some i ≡ number_of (encode x) → Some j ≡ number_of (encode y)
+      → Told Counted r (keep_integer k (calculate (operator_of q) i j)) → Told Counted r (arithmetic_of k q x y)
   unfolding arithmetic_of
   arithmetic_both h g i j e f t = rw (integer_yes k x h i e) (at_pure _ _ (rw (integer_yes k y g j f) (at_pure _ _ t)))
 
-  pub at_most_left : Misfit ≡ number_of (encode x) → Stops r 51 k → Told Judged r (at_most_of k x y)
+  pub at_most_both : {b : Bool} → narrow x ≡ true → narrow y ≡ true → (i j : ℤ) → Some i ≡ number_of (encode x) → Some j ≡ number_of (encode y)
+      → b ≡ le_z i j → Told Judged (Ok b) (at_most_of k x y)
   unfolding at_most_of
-  at_most_left e s = rw (integer_no k x e) (at_stop _ s (λ z. omega arith))
+  at_most_both h g i j e f b = rw (integer_yes k x h i e) (at_pure _ _ (rw (integer_yes k y g j f) (at_pure _ _ (fine b))))
 
-  pub at_most_right : narrow x ≡ true → (i : ℤ) → Integer i ≡ number_of (encode x) → Misfit ≡ number_of (encode y) → Stops r 51 k → Told Judged r (at_most_of k x y)
-  unfolding at_most_of
-  at_most_right h i e f s = rw (integer_yes k x h i e) (at_pure _ _ (rw (integer_no k y f) (at_stop _ s (λ z. omega arith))))
-
-  pub at_most_both : narrow x ≡ true → narrow y ≡ true → (i j : ℤ) → Integer i ≡ number_of (encode x) → Integer j ≡ number_of (encode y)
-      → r.number ≡ 0 → r.flag ≡ le_z i j → Told Judged r (at_most_of k x y)
-  unfolding at_most_of
-  at_most_both h g i j e f z b = rw (integer_yes k x h i e) (at_pure _ _ (rw (integer_yes k y g j f) (at_pure _ _ (fine z (record { flag = b })))))
-
-  pub test_integer : narrow x ≡ true → (i : ℤ) → Integer i ≡ number_of (encode x) → r.number ≡ 0 → r.flag ≡ true → Told Judged r (integer_test k x)
+  pub test_integer : narrow x ≡ true → (i : ℤ) → Some i ≡ number_of (encode x) → Told Judged (Ok true) (integer_test k x)
   unfolding integer_test
-  test_integer h i e z b = rw (integer_yes k x h i e) (at_pure _ _ (fine z (record { flag = b })))
-
-  pub test_other : Misfit ≡ number_of (encode x) → Stops r 51 k → Told Judged r (integer_test k x)
-  unfolding integer_test
-  test_other e s = rw (integer_no k x e) (at_stop _ s (λ z. omega arith))
+  test_integer h i e = rw (integer_yes k x h i e) (at_pure _ _ (fine refl))
 
   -- Member against a value
-  pub among_set : (vs : Values) → y ≡ set vs → r.number ≡ 0 → r.flag ≡ is_in x vs → Told Judged r (among_members k x y)
+  pub among_set : {b : Bool} (vs : Values) → y ≡ set vs → b ≡ is_in x vs → Told Judged (Ok b) (among_members k x y)
   unfolding among_members as_set
-  among_set vs e z b = rw e (at_pure _ _ (fine z (record { flag = b })))
-
-  pub among_other : (get_or (encode y) 0 0 ≡ 3 → ⊥) → Stops r 51 k → Told Judged r (among_members k x y)
-  unfolding among_members
-  among_other e s = rw (tag_none k y e) (at_stop _ s (λ z. omega arith))
+  among_set vs e b = rw e (at_pure _ _ (fine b))
 
 -- Set members added one at a time
-module _ (k : ℕ) (vs : Values) (x : Value) {R : Judgement → Values → Type 0} (r : Judgement) where
-  pub add_over : 64 < length (encode (set (insert_value x vs))) → Stops r 55 k → Told R r (add k x vs)
+module _ (k : ℕ) (vs : Values) (x : Value) {C : Type 0} {R : C → Values → Type 0} where
+  pub add_over : {f : Refusal} → 64 < length (encode (set (insert_value x vs))) → Stops f 55 k → Told R (Err f) (add k x vs)
   unfolding add add_if word_count
   add_over h s = rw (lt-leb (length (encode (set (insert_value x vs)))) 64 h) (ceased s.number s.place (λ z. omega arith))
 
-  pub add_fits : length (encode (set (insert_value x vs))) ≤ 64 → r.number ≡ 0 → R r (insert_value x vs) → Told R r (add k x vs)
+  pub add_fits : {b : C} → length (encode (set (insert_value x vs))) ≤ 64 → R b (insert_value x vs) → Told R (Ok b) (add k x vs)
   unfolding add add_if word_count
-  add_fits h z g = rw (le-leb (length (encode (set (insert_value x vs)))) 64 h) (fine z g)
+  add_fits h g = rw (le-leb (length (encode (set (insert_value x vs)))) 64 h) (fine g)
 
 insert_narrow : (vs : Values) (x : Value) → narrow x ≡ true → all_narrow vs ≡ true → all_narrow (insert_value x vs) ≡ true
 unfolding narrow insert_value insert_by
 insert_narrow nil x p q = both_narrow (narrow x) true p refl
 insert_narrow (cons w ws) x p q = go (compare (encode x) (encode w)) (insert_narrow ws x p (and_right (narrow w) (all_narrow ws) q))
   where
-    go : (o : Order) → all_narrow (insert_value x ws) ≡ true → all_narrow (insert_by o x w ws (insert_value x ws)) ≡ true
+    go : (o : Ordering) → all_narrow (insert_value x ws) ≡ true → all_narrow (insert_by o x w ws (insert_value x ws)) ≡ true
     go Less h = both_narrow (narrow x) _ p q
-    go Same h = q
+    go Equal h = q
     go Greater h = both_narrow (narrow w) _ (and_left (narrow w) (all_narrow ws) q) h
 
 pub set_narrow : (vs : Values) (x : Value) → narrow x ≡ true → narrow (set vs) ≡ true → narrow (set (insert_value x vs)) ≡ true
@@ -229,46 +219,46 @@ unfolding narrow
 second_narrow x z h = and_left (narrow z) true (and_right (narrow x) _ h)
 
 -- the answer on a value's words says what Apply gives
-module _ (k : ℕ) (x y : Value) (r : Judgement) (hs : length (encode x) ≤ 64) (hn : narrow x ≡ true) where
+module _ (k : ℕ) (x y : Value) (hs : length (encode x) ≤ 64) (hn : narrow x ≡ true) where
   image_found : {h : Held} (vs : Values) (i : Image) → Finds y vs i → all_narrow vs ≡ true → length (encode (set vs)) ≤ 64 → (at len : ℕ) → Shows (encode (set vs)) (Found at len) i
-      → r.number ≡ 0 → h ≡ words (take len (drop at (encode (set vs)))) → Told (Valued h) r (image k i >>= λ v. keep k v)
+      → h ≡ words (take len (drop at (encode (set vs)))) → Told Holds (Ok h) (image k i >>= λ v. keep k v)
   unfolding image word_count
-  image_found vs (found v) (finds_one i) h g at len s z w =
+  image_found vs (found v) (finds_one i) h g at len s w =
       let m = found_among i in
-      at_pure _ _ (keep_fine k v r z (record { words = w ∙ ap words s; short = omega (arith, applied_words i); narrow = second_narrow m.0 v (member_narrow h m.1.1) }))
-  image_found vs misfit f h g at len s z w = absurd s
-  image_found vs undefined f h g at len s z w = absurd s
+      at_pure _ _ (keep_fine k v (record { words = w ∙ ap words s; short = omega (arith, applied_words i); narrow = second_narrow m.0 v (member_narrow h m.1.1) }))
+  image_found vs misfit f h g at len s w = absurd s
+  image_found vs undefined f h g at len s w = absurd s
 
-  image_misfit : {h : Held} (vs : Values) (i : Image) → Shows (encode (set vs)) Sets.Misfit i → Stops r 51 k → Told (Valued h) r (image k i >>= λ v. keep k v)
+  image_misfit : {f : Refusal} (vs : Values) (i : Image) → Shows (encode (set vs)) Sets.Misfit i → Stops f 51 k → Told Holds (Err f) (image k i >>= λ v. keep k v)
   unfolding image
   image_misfit vs (found v) s t = absurd s
   image_misfit vs misfit s t = at_stop _ t (λ z. omega arith)
   image_misfit vs undefined s t = absurd s
 
-  image_none : {h : Held} (vs : Values) (i : Image) → Shows (encode (set vs)) Undefined i → Stops r 52 k → Told (Valued h) r (image k i >>= λ v. keep k v)
+  image_none : {f : Refusal} (vs : Values) (i : Image) → Shows (encode (set vs)) Undefined i → Stops f 52 k → Told Holds (Err f) (image k i >>= λ v. keep k v)
   unfolding image
   image_none vs (found v) s t = absurd s
   image_none vs misfit s t = absurd s
   image_none vs undefined s t = at_stop _ t (λ z. omega arith)
 
-  pub apply_found : {h : Held} (at len : ℕ) → Found at len ≡ apply (encode x) (encode y) → r.number ≡ 0 → h ≡ words (take len (drop at (encode x))) → Told (Valued h) r (image_of k x y)
+  pub apply_found : {h : Held} (at len : ℕ) → Found at len ≡ apply (encode x) (encode y) → h ≡ words (take len (drop at (encode x))) → Told Holds (Ok h) (image_of k x y)
   unfolding image_of as_set find_pair apply encode narrow
-  apply_found {h} at len e z w = go x refl
+  apply_found {h} at len e w = go x refl
     where
-      go : (u : Value) → x ≡ u → Told (Valued h) r (as_set k u >>= λ vs. find_pair k y vs >>= λ v. keep k v)
+      go : (u : Value) → x ≡ u → Told Holds (Ok h) (as_set k u >>= λ vs. find_pair k y vs >>= λ v. keep k v)
       go (int i) q = let f : ◌≡◌ {A = ℕ} 0 1 = cc (ap (λ (t : Value). apply (encode t) (encode y)) q) in absurd (omega arith)
       go (element g j) q = let f : ◌≡◌ {A = ℕ} 0 1 = cc (ap (λ (t : Value). apply (encode t) (encode y)) q) in absurd (omega arith)
       go (set vs) q =
           let s : Shows (encode (set vs)) (Found at len) (apply_value y vs) =
           subst (λ (a : Applied). Shows (encode (set vs)) a (apply_value y vs)) (sym (e ∙ ap (λ (t : Value). apply (encode t) (encode y)) q)) (apply_value_lem vs y (rw q at hs)) in
-          at_pure _ _ (image_found vs (apply_value y vs) (finds y vs) (rw q at hn) (rw q at hs) at len s z (rw q at w))
+          at_pure _ _ (image_found vs (apply_value y vs) (finds y vs) (rw q at hn) (rw q at hs) at len s (rw q at w))
       go (tuple vs) q = let f : ◌≡◌ {A = ℕ} 0 1 = cc (ap (λ (t : Value). apply (encode t) (encode y)) q) in absurd (omega arith)
 
-  pub apply_misfit : {h : Held} → Sets.Misfit ≡ apply (encode x) (encode y) → Stops r 51 k → Told (Valued h) r (image_of k x y)
+  pub apply_misfit : {f : Refusal} → Sets.Misfit ≡ apply (encode x) (encode y) → Stops f 51 k → Told Holds (Err f) (image_of k x y)
   unfolding image_of as_set find_pair apply encode
-  apply_misfit {h} e t = go x refl
+  apply_misfit {f} e t = go x refl
     where
-      go : (u : Value) → x ≡ u → Told (Valued h) r (as_set k u >>= λ vs. find_pair k y vs >>= λ v. keep k v)
+      go : (u : Value) → x ≡ u → Told Holds (Err f) (as_set k u >>= λ vs. find_pair k y vs >>= λ v. keep k v)
       go (int i) q = at_stop _ t (λ z. omega arith)
       go (element g j) q = at_stop _ t (λ z. omega arith)
       go (set vs) q =
@@ -277,11 +267,11 @@ module _ (k : ℕ) (x y : Value) (r : Judgement) (hs : length (encode x) ≤ 64)
           at_pure _ _ (image_misfit vs (apply_value y vs) s t)
       go (tuple vs) q = at_stop _ t (λ z. omega arith)
 
-  pub apply_none : {h : Held} → Undefined ≡ apply (encode x) (encode y) → Stops r 52 k → Told (Valued h) r (image_of k x y)
+  pub apply_none : {f : Refusal} → Undefined ≡ apply (encode x) (encode y) → Stops f 52 k → Told Holds (Err f) (image_of k x y)
   unfolding image_of as_set find_pair apply encode
-  apply_none {h} e t = go x refl
+  apply_none {f} e t = go x refl
     where
-      go : (u : Value) → x ≡ u → Told (Valued h) r (as_set k u >>= λ vs. find_pair k y vs >>= λ v. keep k v)
+      go : (u : Value) → x ≡ u → Told Holds (Err f) (as_set k u >>= λ vs. find_pair k y vs >>= λ v. keep k v)
       go (int i) q = let f : ◌≡◌ {A = ℕ} 0 1 = cc (ap (λ (t : Value). apply (encode t) (encode y)) q) in absurd (omega arith)
       go (element g j) q = let f : ◌≡◌ {A = ℕ} 0 1 = cc (ap (λ (t : Value). apply (encode t) (encode y)) q) in absurd (omega arith)
       go (set vs) q =
@@ -291,21 +281,21 @@ module _ (k : ℕ) (x y : Value) (r : Judgement) (hs : length (encode x) ≤ 64)
       go (tuple vs) q = let f : ◌≡◌ {A = ℕ} 0 1 = cc (ap (λ (t : Value). apply (encode t) (encode y)) q) in absurd (omega arith)
 
 -- kinds 25 to 29 and 41 to 45 by their number
-pub right_side_lem : (q : ℕ) → (q ≡ 26 → ⊥) → Right ≡ decision_of (connective_of q) true
+pub right_side_lem : (q : ℕ) → (q ≡ 26 → ⊥) → None ≡ decision_of (connective_of q) true
 unfolding decision_of
 right_side_lem q h = go (q - 25) refl
   where
-    go : (d : ℕ) → q - 25 ≡ d → Right ≡ decision_of (get_or (and ∷ or ∷ implies ∷ []) d and) true
+    go : (d : ℕ) → q - 25 ≡ d → None ≡ decision_of (get_or (and ∷ or ∷ implies ∷ []) d and) true
     go zero e = refl
     go (suc zero) e = absurd (h (omega arith))
     go (suc (suc zero)) e = refl
     go (suc (suc (suc d))) e = refl
 
-pub decided_false : (q : ℕ) → (q ≡ 26 → ⊥) → (q ≡ 27 → ⊥) → Known false ≡ decision_of (connective_of q) false
+pub decided_false : (q : ℕ) → (q ≡ 26 → ⊥) → (q ≡ 27 → ⊥) → Some false ≡ decision_of (connective_of q) false
 unfolding decision_of
 decided_false q h g = go (q - 25) refl
   where
-    go : (d : ℕ) → q - 25 ≡ d → Known false ≡ decision_of (get_or (and ∷ or ∷ implies ∷ []) d and) false
+    go : (d : ℕ) → q - 25 ≡ d → Some false ≡ decision_of (get_or (and ∷ or ∷ implies ∷ []) d and) false
     go zero e = refl
     go (suc zero) e = absurd (h (omega arith))
     go (suc (suc zero)) e = absurd (g (omega arith))

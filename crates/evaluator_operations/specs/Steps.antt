@@ -1,5 +1,5 @@
 -- The steps of the evaluation rules that the code's functions take: what follows the operands' values.
-use Rattle.std.specs.Prelude.{Bool, true, false, not, ℕ}
+use Rattle.std.specs.Prelude.{Bool, true, false, not, ℕ, Option, Some, None}
 use Rattle.std.specs.Int.Signed.{le_z}
 use Rattle.values.specs.Value.{Value, set, Values}
 use Rattle.enumeration_rules.specs.Enumeration.{subsets, tuples}
@@ -7,8 +7,6 @@ use Rattle.reader_rules.specs.Tree.{Connective, and, or, implies, Quantifier, fo
 use Rattle.reader_rules.specs.Decode.{operator_of}
 use Rattle.evaluator_rules.specs.Outcomes.{Outcome, ◌>>=◌, pure, keep}
 use Rattle.evaluator_rules.specs.Operations.{as_integer, as_set, as_sets, find_pair, keep_integer, calculate}
-use Rattle.evaluator_operations.specs.declared.logic.Decision.{Decision}
-use Rattle.evaluator_operations.specs.declared.logic.Decision.TheVariants.{Known, Right}
 
 -- arithmetic of kind q, ≤, ℤ's test, Apply
 unfoldable pub arithmetic_of : ℕ → ℕ → Value → Value → Outcome Value
@@ -30,14 +28,14 @@ power_of k x = as_set k x >>= λ vs. keep k (set (subsets vs))
 unfoldable pub product_of : ℕ → Values → Outcome Value
 product_of k vs = as_sets k vs >>= λ vss. keep k (set (tuples vss))
 
--- what the left side of and, or, implies decides
-unfoldable pub decision_of : Connective → Bool → Decision
-decision_of and true = Right
-decision_of and false = Known false
-decision_of or true = Known true
-decision_of or false = Right
-decision_of implies true = Right
-decision_of implies false = Known true
+-- what the left side of and, or, implies decides, or that the right side does
+unfoldable pub decision_of : Connective → Bool → Option Bool
+decision_of and true = None
+decision_of and false = Some false
+decision_of or true = Some true
+decision_of or false = None
+decision_of implies true = None
+decision_of implies false = Some true
 
 -- whether forall or exists stops at a truth value; and what it is where it was stopped, or not
 unfoldable pub verdict_of : Quantifier → Bool → Bool

@@ -5,17 +5,18 @@ ghost use Rattle.values.specs.Span.{span};
 ghost use Rattle.values.specs.Value.{Value, Values, nil, encode};
 ghost use Rattle.values.specs.Value as Value;
 ghost use Rattle.values.specs.SetValues.{same_value};
-ghost use Rattle.evaluator_rules.specs.Outcomes.{pure, keep};
+ghost use Rattle.evaluator_rules.specs.Outcomes.{keep};
 ghost use Rattle.evaluator_operations.specs.Steps.{image_of};
 ghost use Rattle.evaluator_rules.specs.Rules.{among_members};
-ghost use Rattle.evaluator_operations.specs.Worked.{narrow, Holds, Told, Valued, Judged};
+ghost use Rattle.evaluator_operations.specs.Worked.{narrow, Holds, Told, Judged};
 
-use crate::worked::{Judgement, Worked, go, judge, refuse, stop};
+use crate::worked::refusal;
 use codes::{findings, limits, value_tags};
+use reader_rules::Refusal;
 use values::held::{Held, append, hold};
 use values::order::same;
 use values::sets;
-use values::sets::Applied;
+use values::sets::NoImage;
 use values::span::span;
 use words::{from, word};
 
@@ -25,29 +26,29 @@ const SET: u32 = value_tags::SET as u32;
 const TUPLE: u32 = value_tags::TUPLE as u32;
 
 // A value that is complete: over 64 words is 55.
-pub fn kept(k: usize, v: Held) -> Worked
+pub fn kept(k: usize, v: Held) -> Result<Held, Refusal>
     requires { k ≤ 1024 }
-    ensures { (x : Value) → v ≡ words (encode x) → narrow x ≡ true → Told (Valued result.held) result.judgement (keep k x) }
+    ensures { (x : Value) → v ≡ words (encode x) → narrow x ≡ true → Told Holds result (keep k x) }
 {
     if limits::VALUE < v.len {
-        return stop(findings::TOO_LONG, k);
+        return Err(refusal(findings::TOO_LONG, k));
     }
-    go(v, false)
+    Ok(v)
 }
 
 // = compares words.
-pub fn equal(a: Held, b: Held) -> Judgement
-    ensures { (x y : Value) → Holds a x → Holds b y → Told Judged result (pure (same_value x y)) }
+pub fn equal(a: Held, b: Held) -> bool
+    ensures { (x y : Value) → Holds a x → Holds b y → result ≡ same_value x y }
 {
     let u = a.words;
     let m = a.len;
     let v = b.words;
     let n = b.len;
-    judge(same(words::span(&u, 0, m), words::span(&v, 0, n)))
+    same(words::span(&u, 0, m), words::span(&v, 0, n))
 }
 
 // Member against a value, which must be a set.
-pub fn among(k: usize, v: Held, s: Held) -> Judgement
+pub fn among(k: usize, v: Held, s: Held) -> Result<bool, Refusal>
     requires { k ≤ 1024 }
     ensures { (x y : Value) → Holds v x → Holds s y → Told Judged result (among_members k x y) }
 {
@@ -56,15 +57,15 @@ pub fn among(k: usize, v: Held, s: Held) -> Judgement
     let w = s.words;
     let n = s.len;
     if word(&w, 0) == value_tags::SET {
-        return judge(sets::is_member(words::span(&w, 0, n), words::span(&u, 0, m)));
+        return Ok(sets::is_member(words::span(&w, 0, n), words::span(&u, 0, m)));
     }
-    refuse(findings::MISFIT, k)
+    Err(refusal(findings::MISFIT, k))
 }
 
 // Apply.
-pub fn applied(k: usize, f: Held, a: Held) -> Worked
+pub fn applied(k: usize, f: Held, a: Held) -> Result<Held, Refusal>
     requires { k ≤ 1024 }
-    ensures { (x y : Value) → Holds f x → Holds a y → Told (Valued result.held) result.judgement (image_of k x y) }
+    ensures { (x y : Value) → Holds f x → Holds a y → Told Holds result (image_of k x y) }
 {
     let u = f.words;
     let m = f.len;
@@ -72,9 +73,9 @@ pub fn applied(k: usize, f: Held, a: Held) -> Worked
     let n = a.len;
     let p = sets::apply(words::span(&u, 0, m), words::span(&w, 0, n));
     match p {
-        Applied::Found { at, len } => go(hold(words::span(words::span(&u, 0, m), at, len)), false),
-        Applied::Misfit => stop(findings::MISFIT, k),
-        Applied::Undefined => stop(findings::UNDEFINED, k),
+        Ok((at, len)) => Ok(hold(words::span(words::span(&u, 0, m), at, len))),
+        Err(NoImage::Misfit) => Err(refusal(findings::MISFIT, k)),
+        Err(NoImage::Undefined) => Err(refusal(findings::UNDEFINED, k)),
     }
 }
 

@@ -4,8 +4,9 @@ ghost use Rattle.values.specs.Value.{Value, Values, set};
 ghost use Rattle.evaluator_rules.specs.Operations.{add};
 ghost use Rattle.evaluator_operations.specs.Worked.{Holds, Told, SetIn, Grown};
 
-use crate::worked::{Judgement, judge, refuse};
+use crate::worked::refusal;
 use codes::{findings, limits};
+use reader_rules::Refusal;
 use values::held::{Held, hold};
 use values::sets;
 use words::{copy, store, word};
@@ -28,7 +29,7 @@ pub fn put_set(s: &mut [u32], t: Held)
 }
 
 // The set with the member v; over 64 words is 55, at node k.
-pub fn gather(k: usize, s: &mut [u32], v: Held) -> Judgement
+pub fn gather(k: usize, s: &mut [u32], v: Held) -> Result<(), Refusal>
     requires { k ≤ 1024 }
     ensures { (vs : Values) (x : Value) → SetIn s.old vs → Holds v x → Told (Grown s.new) result (add k x vs) }
 {
@@ -39,10 +40,10 @@ pub fn gather(k: usize, s: &mut [u32], v: Held) -> Judgement
         words::span(&w, 0, n),
     );
     if limits::VALUE < t.len {
-        return refuse(findings::TOO_LONG, k);
+        return Err(refusal(findings::TOO_LONG, k));
     }
     put_set(s, t);
-    judge(false)
+    Ok(())
 }
 
 // The set by value.

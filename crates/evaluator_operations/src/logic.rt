@@ -5,29 +5,23 @@ ghost use Rattle.evaluator_operations.specs.Steps.{decision_of, verdict_of};
 
 use codes::kinds;
 
-// What the left side says of and, or, implies, kinds 25 to 27.
-#[derive(Clone, Copy)]
-pub enum Decision {
-    Known(bool),
-    Right,
-}
-
-pub fn decides(q: usize, left: bool) -> Decision
+// What the left side decides of and, or, implies, kinds 25 to 27; None: the right side does.
+pub fn decides(q: usize, left: bool) -> Option<bool>
     ensures { result ≡ decision_of (connective_of q) left }
 {
     if q == kinds::OR {
         if left {
-            return Decision::Known(true);
+            return Some(true);
         }
-        return Decision::Right;
+        return None;
     }
     if left {
-        return Decision::Right;
+        return None;
     }
     if q == kinds::IMPLIES {
-        return Decision::Known(true);
+        return Some(true);
     }
-    Decision::Known(false)
+    Some(false)
 }
 
 // forall is false where it was stopped, and stops at a false; exists is true where it was stopped, and stops at a true. Kinds 28 and 29.

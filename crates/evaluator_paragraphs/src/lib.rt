@@ -17,27 +17,23 @@ ghost use Rattle.evaluator_operations.specs.Worked.{Told};
 ghost use Rattle.evaluator_scope.specs.Blocks.{Scoped, Leaves};
 ghost use Rattle.evaluator_scope.specs.Named.{Declares, Stated, Extends, said};
 ghost use Rattle.evaluator_nodes.specs.Ready.{Ready};
-ghost use Rattle.evaluator_paragraphs.specs.Paragraphs.{demanded, Roomy, bind_lines, Stepped, Failed, TestsTold, Steps};
+ghost use Rattle.evaluator_paragraphs.specs.Paragraphs.{demanded, Roomy, bind_lines, Stepped, TestsTold, Steps};
 
 use codes::{findings, kinds};
 use evaluator_nodes::nodes::{expr, pred, tests};
-use evaluator_operations::worked::{Judgement, judge, refuse};
+use evaluator_operations::worked::refusal;
 use evaluator_scope::named::{bounded, held_name, put_names};
 use evaluator_scope::{put_generic, put_name};
 use layout::part;
+use reader_rules::Refusal;
 use states::names::text_count;
 use words::word;
 
-// A failure at node k.
-fn fail(k: usize) -> Judgement
-    requires { k ≤ 1024 }
-    ensures { Failed result k }
-{
-    Judgement {
-        flag: false,
-        number: 0,
-        place: k as u32,
-    }
+// What a paragraph, or a test in one, leaves: the run goes on, or it fails at a node.
+#[derive(Clone, Copy, PartialEq, Eq)]
+pub enum Progress {
+    Onward,
+    Failed { node: u32 },
 }
 
 // The identifiers of Decl v, with the words x, from j on: the value of each is tested against the Decl's expression. `true` stands for givens and others alike.
@@ -50,12 +46,12 @@ fn test_names(
     v: usize,
     x: &[u32],
     j: usize,
-) -> Judgement
+) -> Result<Progress, Refusal>
     requires { Stated doc.now state.now table.now × Ready doc.now work.old expressions n (get_or x.now 1 0) × Declares doc.now (names_as true (drop j x.now)) × (v ≤ 1024) × (length x.now ≤ 256) }
     ensures { Leaves n work.old work.new ((scope : Environment) → Scoped state.now work.old n scope → TestsTold (bind_givens (drop j x.now) (said doc.now state.now)) result (test_names v (test (expr_at doc.now (get_or x.now 1 0)) scope) (drop j x.now) (said doc.now state.now))) }
 {
     if x.len() <= j {
-        return judge(true);
+        return Ok(Progress::Onward);
     }
     let y = tests(
         doc,
@@ -64,14 +60,11 @@ fn test_names(
         n,
         word(x, 1),
         held_name(doc, state, table, word(x, j)),
-    );
-    if y.number != 0 {
-        return y;
-    }
-    if y.flag {
+    )?;
+    if y {
         return test_names(doc, state, table, work, n, v, x, j + 1);
     }
-    fail(v)
+    Ok(Progress::Failed { node: v as u32 })
 }
 
 // The lines of Text t, with the words u, from i on: each Decl tests its identifiers; an Include stops the run.
@@ -84,26 +77,23 @@ fn test_lines(
     t: usize,
     u: &[u32],
     i: usize,
-) -> Judgement
+) -> Result<Progress, Refusal>
     requires { Stated doc.now state.now table.now × At doc.now texts t × (u.now ≡ part doc.now t) × (2 ≤ i) × (i ≤ 256) × Roomy work.old n 0 × Declares doc.now (line_names (lines_from doc.now t i (length u.now - i))) }
     ensures { Leaves n work.old work.new ((scope : Environment) → Scoped state.now work.old n scope → TestsTold (bind_lines (lines_from doc.now t i (length u.now - i)) (said doc.now state.now)) result (test_lines (lines_from doc.now t i (length u.now - i)) (said doc.now state.now) scope)) }
 {
     if u.len() <= i {
-        return judge(true);
+        return Ok(Progress::Onward);
     }
     let v = word(u, i);
     let x = part(doc, v);
     if word(x, 0) == kinds::INCLUDE {
-        return refuse(findings::NOT_RUN, v);
+        return Err(refusal(findings::NOT_RUN, v));
     }
-    let y = test_names(doc, state, table, work, n, v, x, 2);
-    if y.number != 0 {
-        return y;
+    let y = test_names(doc, state, table, work, n, v, x, 2)?;
+    match y {
+        Progress::Onward => test_lines(doc, state, table, work, n, t, u, i + 1),
+        Progress::Failed { node } => Ok(y),
     }
-    if y.flag {
-        return test_lines(doc, state, table, work, n, t, u, i + 1);
-    }
-    y
 }
 
 // The identifiers of the lines of Text t from i on, in blocks from b on.
@@ -141,27 +131,31 @@ fn given(
     n: usize,
     k: usize,
     w: &[u32],
-) -> Judgement
+) -> Result<Progress, Refusal>
     requires { Stated doc.now state.now table.now × At doc.now paragraphs k × (kind_at doc.now k ≡ 2) × Roomy work.old n (globals_of (paragraph_at doc.now k)) × Declares doc.now (paragraph_names (paragraph_at doc.now k)) × (w.now ≡ part doc.now k) }
     ensures { Steps state.now work.old work.new n (n + globals_of (paragraph_at doc.now k)) result (run_paragraph (paragraph_at doc.now k) (said doc.now state.now)) }
 {
     put_names(doc, state, table, work, n, w, 1);
-    judge(true)
+    Ok(Progress::Onward)
 }
 
 // A predicate that must be true, at node p; it fails at node k.
-fn demand(doc: &[u32], state: &[u32], work: &mut [u32], n: usize, k: usize, p: usize) -> Judgement
+fn demand(
+    doc: &[u32],
+    state: &[u32],
+    work: &mut [u32],
+    n: usize,
+    k: usize,
+    p: usize,
+) -> Result<Progress, Refusal>
     requires { Ready doc.now work.old predicates n p × (k ≤ 1024) }
     ensures { Steps state.now work.old work.new n n result (demanded k (pred_at doc.now p)) }
 {
-    let y = pred(doc, state, work, n, p);
-    if y.number != 0 {
-        return y;
+    let y = pred(doc, state, work, n, p)?;
+    if y {
+        return Ok(Progress::Onward);
     }
-    if y.flag {
-        return judge(true);
-    }
-    fail(k)
+    Ok(Progress::Failed { node: k as u32 })
 }
 
 // 3 Axiom: the tests of its lines, then its names, then its predicate.
@@ -173,21 +167,20 @@ fn axiom(
     n: usize,
     k: usize,
     w: &[u32],
-) -> Judgement
+) -> Result<Progress, Refusal>
     requires { Stated doc.now state.now table.now × At doc.now paragraphs k × (kind_at doc.now k ≡ 3) × Roomy work.old n (globals_of (paragraph_at doc.now k)) × Declares doc.now (paragraph_names (paragraph_at doc.now k)) × (w.now ≡ part doc.now k) }
     ensures { Steps state.now work.old work.new n (n + globals_of (paragraph_at doc.now k)) result (run_paragraph (paragraph_at doc.now k) (said doc.now state.now)) }
 {
     let t = word(w, 1);
     let u = part(doc, t);
-    let y = test_lines(doc, state, table, work, n, t, u, 2);
-    if y.number != 0 {
-        return y;
+    let y = test_lines(doc, state, table, work, n, t, u, 2)?;
+    match y {
+        Progress::Onward => {
+            put_lines(doc, state, table, work, n, t, u, 2);
+            demand(doc, state, work, n + text_count(doc, t), k, word(u, 1))
+        }
+        Progress::Failed { node } => Ok(y),
     }
-    if y.flag {
-        put_lines(doc, state, table, work, n, t, u, 2);
-        return demand(doc, state, work, n + text_count(doc, t), k, word(u, 1));
-    }
-    y
 }
 
 // 5 Abbreviation: without parameters its value is kept.
@@ -198,22 +191,17 @@ fn abbreviation(
     n: usize,
     k: usize,
     w: &[u32],
-) -> Judgement
+) -> Result<Progress, Refusal>
     requires { At doc.now paragraphs k × (kind_at doc.now k ≡ 5) × Roomy work.old n 1 × (w.now ≡ part doc.now k) }
     ensures { (s : State) → Steps state.now work.old work.new n (n + 1) result (run_paragraph (paragraph_at doc.now k) s) }
 {
     if word(w, 2) == 0 {
-        let y = expr(doc, state, work, n, word(w, 3));
-        let j = y.judgement;
-        if j.number != 0 {
-            return j;
-        }
-        let h = y.held;
-        put_name(work, n, word(w, 1), bounded(h));
-        return judge(true);
+        let y = expr(doc, state, work, n, word(w, 3))?;
+        put_name(work, n, word(w, 1), bounded(y));
+        return Ok(Progress::Onward);
     }
     put_generic(work, n, word(w, 1));
-    judge(true)
+    Ok(Progress::Onward)
 }
 
 // A paragraph.
@@ -224,7 +212,7 @@ fn paragraph(
     work: &mut [u32],
     n: usize,
     k: usize,
-) -> Judgement
+) -> Result<Progress, Refusal>
     requires { Stated doc.now state.now table.now × At doc.now paragraphs k × Roomy work.old n (globals_of (paragraph_at doc.now k)) × Declares doc.now (paragraph_names (paragraph_at doc.now k)) }
     ensures { Steps state.now work.old work.new n (n + globals_of (paragraph_at doc.now k)) result (run_paragraph (paragraph_at doc.now k) (said doc.now state.now)) }
 {
@@ -235,7 +223,7 @@ fn paragraph(
         kinds::AXIOM => axiom(doc, state, table, work, n, k, w),
         kinds::ABBREVIATION => abbreviation(doc, state, work, n, k, w),
         kinds::CONSTRAINT => demand(doc, state, work, n, k, word(w, 1)),
-        _ => judge(true),
+        _ => Ok(Progress::Onward),
     }
 }
 
@@ -263,24 +251,18 @@ pub fn run_from(
     n: usize,
     w: &[u32],
     i: usize,
-) -> Judgement
+) -> Result<Progress, Refusal>
     requires { Stated doc.now state.now table.now × (w.now ≡ part doc.now (count doc.now)) × (1 ≤ i) × (i ≤ 256) × Roomy work.old n (global_count (paragraphs_from doc.now (count doc.now) i (length w.now - i))) × Declares doc.now (names_of (paragraphs_from doc.now (count doc.now) i (length w.now - i))) }
     ensures { (scope : Environment) → Scoped state.now work.old n scope → Told (Stepped (λ s. Unit {0})) result (run_paragraphs (paragraphs_from doc.now (count doc.now) i (length w.now - i)) (said doc.now state.now) scope) }
 {
     let mut b = n;
-    let mut j = i;
-    while j < w.len() {
+    for j in i..w.len() {
         let k = word(w, j);
-        let y = paragraph(doc, state, table, work, b, k);
-        if y.number != 0 {
-            return y;
-        }
-        if y.flag {
-            b += global_count(doc, k);
-            j += 1;
-        } else {
-            return y;
+        let y = paragraph(doc, state, table, work, b, k)?;
+        match y {
+            Progress::Onward => b += global_count(doc, k),
+            Progress::Failed { node } => return Ok(y),
         }
     }
-    judge(true)
+    Ok(Progress::Onward)
 }

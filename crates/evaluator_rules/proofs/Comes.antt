@@ -6,9 +6,9 @@ use Prim.Native.Nat.{ℕ, ◌≤◌, ◌<◌}
 use lib.IntN.{ℤ}
 use borrow.Author.Tests.{le-leb, lt-leb, eq-eqb, ne_eqb}
 use Rattle.values.specs.Value.{Value, int, element, Values, nil, cons, count}
-use Rattle.values.specs.Value as Value
 use Rattle.values.specs.SetValues.{insert_value}
-use Rattle.values_integers.specs.declared.integer.Integer.TheVariants.{Whole, Undefined, Outside}
+use Rattle.std.proofs.Common.{Ok, Err}
+use Rattle.values_integers.specs.declared.integer.ArithmeticError.TheVariants.{Undefined, Outside}
 use Rattle.reader_rules.specs.Tree.{Expr, Exprs, none, more, expr_node, Operator}
 use Rattle.evaluator_rules.specs.WordCount.{word_count}
 use Rattle.evaluator_rules.specs.Outcomes.{Event, Outcome, done, stopped, after, ◌>>=◌, keep_if, keep}
@@ -140,15 +140,15 @@ pub pair_not_one : (n : ℕ) (a : Value) (vs zs : Values) → Images a vs zs →
 unfolding find_pair image
 pair_not_one n a vs zs i h = rw (undefined_where i h) ceased
 
-pub whole : (n : ℕ) (o : Operator) (j k z : ℤ) {t : List Event} {r : Result Value} → calculate o j k ≡ Whole z → Enters n (int z) t r → Comes (keep_integer n (calculate o j k)) t r
+pub whole : (n : ℕ) (o : Operator) (j k z : ℤ) {t : List Event} {r : Result Value} → calculate o j k ≡ Ok z → Enters n (int z) t r → Comes (keep_integer n (calculate o j k)) t r
 unfolding keep_integer
 whole n o j k z e h = rw e (enters_comes h)
 
-pub no_result_lem : (n : ℕ) (o : Operator) (j k : ℤ) → calculate o j k ≡ Undefined → Comes (keep_integer n (calculate o j k)) [] (stops 52 n)
+pub no_result_lem : (n : ℕ) (o : Operator) (j k : ℤ) → calculate o j k ≡ (Err Undefined) → Comes (keep_integer n (calculate o j k)) [] (stops 52 n)
 unfolding keep_integer
 no_result_lem n o j k e = rw e ceased
 
-pub past_32 : (n : ℕ) (o : Operator) (j k : ℤ) → calculate o j k ≡ Outside → Comes (keep_integer n (calculate o j k)) [] (stops 53 n)
+pub past_32 : (n : ℕ) (o : Operator) (j k : ℤ) → calculate o j k ≡ (Err Outside) → Comes (keep_integer n (calculate o j k)) [] (stops 53 n)
 unfolding keep_integer
 past_32 n o j k e = rw e ceased
 

@@ -6,9 +6,9 @@ use native.Mathlib.Omega.{arith}
 use lib.Dec.{leb}
 use borrow.Author.Tests.{leb-true}
 use Rattle.values.specs.Value.{Value, int, element, Values, nil, cons}
-use Rattle.values.specs.Value as Value
-use Rattle.values_integers.specs.declared.integer.Integer.{Integer}
-use Rattle.values_integers.specs.declared.integer.Integer.TheVariants.{Whole, Undefined, Outside}
+use Rattle.values_integers.specs.Integer.{Computed}
+use Rattle.std.proofs.Common.{Ok, Err}
+use Rattle.values_integers.specs.declared.integer.ArithmeticError.TheVariants.{Undefined, Outside}
 use Rattle.reader_rules.specs.Tree.{Connective, and, or, implies, Expr, reference, number, integers, set, tuple, product, power, application, selection, theta, schema_set, arithmetic}
 use Rattle.reader_rules.specs.Tree.{comprehension, Exprs, none, more, Pred, truth, equal, member, at_most, connected, quantified, Text, text, Lines, end}
 use Rattle.reader_rules.specs.Tree.{declaration, inclusion, Include, include}
@@ -96,11 +96,11 @@ pair_fine : (n : ℕ) (a : Value) (vs : Values) → Fine (find_pair n a vs)
 unfolding find_pair
 pair_fine n a vs = image_fine n (apply_value a vs)
 
-whole_fine : (n : ℕ) (i : Integer) → Fine (keep_integer n i)
+whole_fine : (n : ℕ) (i : Computed) → Fine (keep_integer n i)
 unfolding keep_integer
-whole_fine n (Whole z) = keep_fine n _
-whole_fine n Undefined = trouble (omega arith) (omega arith)
-whole_fine n Outside = trouble (omega arith) (omega arith)
+whole_fine n (Ok z) = keep_fine n _
+whole_fine n (Err Undefined) = trouble (omega arith) (omega arith)
+whole_fine n (Err Outside) = trouble (omega arith) (omega arith)
 
 connect_fine : (o : Connective) (b : Bool) (right : Unit {0} → Outcome Bool) → Fine (right tt) → Fine (connect o b right)
 unfolding connect

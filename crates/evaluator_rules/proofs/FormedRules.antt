@@ -15,8 +15,9 @@ use Rattle.values.specs.Value.{Value, int, element, Values, nil, cons, count}
 use Rattle.values.specs.Value as Value
 use Rattle.values.specs.WellFormed.{ascends, well_formed, all_well_formed}
 use Rattle.values.specs.SetValues.{insert_value, Image}
-use Rattle.values_integers.specs.declared.integer.Integer.{Integer}
-use Rattle.values_integers.specs.declared.integer.Integer.TheVariants.{Whole, Undefined, Outside}
+use Rattle.values_integers.specs.Integer.{Computed}
+use Rattle.std.proofs.Common.{Ok, Err}
+use Rattle.values_integers.specs.declared.integer.ArithmeticError.TheVariants.{Undefined, Outside}
 use Rattle.words.proofs.Loops.{and_left, and_right}
 use Rattle.values.proofs.Unique.{both}
 use Rattle.values.proofs.Inserting.{insert_well_formed}
@@ -52,16 +53,16 @@ remainder_in (pos a) d h = lt-ltb (a % suc d) (2 ^ 31) (omega (arith, ltb-true (
 remainder_in (negsuc a) d h = lt-ltb (suc d - suc (a % suc d)) (2 ^ 31) (omega (arith, ltb-true (suc d) (2 ^ 31) h))
 
 -- a result is of 32 bits
-abbrev In32 : Integer → Type 0
-In32 (Whole z) = in32 z ≡ true
-In32 Undefined = Unit {0}
-In32 Outside = Unit {0}
+abbrev In32 : Computed → Type 0
+In32 (Ok z) = in32 z ≡ true
+In32 (Err Undefined) = Unit {0}
+In32 (Err Outside) = Unit {0}
 
 kept_in : (z : ℤ) → In32 (kept z)
 unfolding kept
 kept_in z = go (in32 z) refl
   where
-    go : (b : Bool) → in32 z ≡ b → In32 (cond b (Whole z) Outside)
+    go : (b : Bool) → in32 z ≡ b → In32 (cond b (Ok z) (Err Outside))
     go true e = e
     go false e = tt
 
@@ -202,11 +203,11 @@ module _ (size : ℕ → ℕ) where
       go (finds_one {v = v} i) = let r = found_among i in pure_good (second_formed r.0 v (member_formed (members_of_lem vs h) r.1.1))
       go (finds_not_one i e) = stop_good tt
 
-  whole_formed : (n : ℕ) (i : Integer) → In32 i → Keeps Proper (keep_integer n i)
+  whole_formed : (n : ℕ) (i : Computed) → In32 i → Keeps Proper (keep_integer n i)
   unfolding keep_integer well_formed
-  whole_formed n (Whole z) h = keep_formed n (int z) h
-  whole_formed n Undefined h = stop_good tt
-  whole_formed n Outside h = stop_good tt
+  whole_formed n (Ok z) h = keep_formed n (int z) h
+  whole_formed n (Err Undefined) h = stop_good tt
+  whole_formed n (Err Outside) h = stop_good tt
 
   connect_formed : (o : Connective) (b : Bool) (right : Unit {0} → Outcome Bool) → Keeps Nothing (right tt) → Keeps Nothing (connect o b right)
   unfolding connect

@@ -1,4 +1,5 @@
 -- EVERY VALUE THAT A RUN LISTS IS WELL FORMED, for the sizes that the state gives its givens. So each set in a run ascends by word sequence.
+use Rattle.std.specs.Prelude.{Err}
 use mathlib.Core.Path.{◌≡◌, refl}
 use mathlib.Core.List.{List, [], ◌∷◌}
 use mathlib.Core.Bool.{Bool, true, false}
@@ -10,8 +11,7 @@ use Rattle.reader_rules.specs.Tree.{text, Lines, end, declaration, inclusion, Pa
 use Rattle.reader_rules.specs.Tree as Tree
 use Rattle.reader_rules.specs.Reading.{read_of}
 use Rattle.reader_rules.specs.Decode.{tree_of}
-use Rattle.reader_rules.specs.declared.Reading.{Reading}
-use Rattle.reader_rules.specs.declared.Reading.TheVariants.{Readable, Refused as Unreadable}
+use Rattle.reader_rules.specs.Refusals.{Finding, Readable, Refused}
 use Rattle.reader_rules.proofs.Sized.{SizedExpr, SizedLines, SizedParagraph, SizedParagraphs, SizedDocument}
 use Rattle.reader_rules.proofs.SizedTree.{document_sized}
 use Rattle.states_rules.specs.Names.{document_names}
@@ -90,21 +90,21 @@ module _ (doc state : List ℕ) (words : Words state) where
   abbrev Kept : List Event → Type 0
   Kept = Listed (Formed (sizes_in (document_names (tree_of doc)) state))
 
-  state_kept : read_of doc ≡ Readable → (r : Reading) → state_of (document_names (tree_of doc)) state ≡ r → Kept (run_state r (tree_of doc) state).list
+  state_kept : read_of doc ≡ Readable → (r : Finding) → state_of (document_names (tree_of doc)) state ≡ r → Kept (run_state r (tree_of doc) state).list
   unfolding run_state
   state_kept read Readable e =
       ending_formed (document_formed _ _ (state_formed (document_names (tree_of doc)) state words ((state_well (document_names (tree_of doc)) state).0 e)) (tree_of doc) (document_sized doc read))
-  state_kept read (Unreadable n p) e = Claims.empty
+  state_kept read (Err err) e = Claims.empty
 
   work_kept : read_of doc ≡ Readable → (b : Bool) → Kept (run_work b (tree_of doc) state).list
   unfolding run_work
   work_kept read true = state_kept read _ refl
   work_kept read false = Claims.empty
 
-  read_kept : (work : ℕ) (r : Reading) → read_of doc ≡ r → Kept (run_read r doc state work).list
+  read_kept : (work : ℕ) (r : Finding) → read_of doc ≡ r → Kept (run_read r doc state work).list
   unfolding run_read
   read_kept work Readable e = work_kept e (leb run_work_words work)
-  read_kept work (Unreadable n p) e = Claims.empty
+  read_kept work (Err err) e = Claims.empty
 
 -- for any document words and any state of 32-bit words; an ill-formed state is 41 and lists nothing
 pub run_formed : (doc state : List ℕ) (work : ℕ) → Words state → Listed (Formed (sizes_in (document_names (tree_of doc)) state)) (run_of doc state work).list

@@ -10,8 +10,9 @@ use lib.Dec.{eqb}
 use borrow.Author.Tests.{eqb-true, eq-eqb}
 use Rattle.values.specs.Value.{Value, int, Values, nil, cons, count}
 use Rattle.values.specs.SetValues.{Image}
-use Rattle.values_integers.specs.declared.integer.Integer.{Integer}
-use Rattle.values_integers.specs.declared.integer.Integer.TheVariants.{Whole, Undefined, Outside}
+use Rattle.values_integers.specs.Integer.{Computed}
+use Rattle.std.proofs.Common.{Ok, Err}
+use Rattle.values_integers.specs.declared.integer.ArithmeticError.TheVariants.{Undefined, Outside}
 use Rattle.reader_rules.specs.Tree.{Connective, and, or, implies, Quantifier, forall, exists}
 use Rattle.reader_rules.specs.Tree.{Expr, reference, number, integers, set, tuple, product, power, application, selection, theta, schema_set, arithmetic}
 use Rattle.reader_rules.specs.Tree.{comprehension, Exprs, none, more, Pred, truth, equal, member, at_most, connected, quantified, Text, text, Lines, end}
@@ -50,11 +51,11 @@ pair_says n a vs {Q = Q} f k l m = go (finds a vs)
     go (finds_one {v = v} i) = silent_says v f (k v i)
     go (finds_not_one {zs = zs} i h) = stop_says (m zs i h)
 
-whole_says : (n : ℕ) (i : Integer) {Q : List Event → Result Value → Type 0} → ((z : ℤ) → i ≡ Whole z → Says Q (keep n (int z))) → (i ≡ Undefined → Q [] (stops 52 n)) → (i ≡ Outside → Q [] (stops 53 n)) → Says Q (keep_integer n i)
+whole_says : (n : ℕ) (i : Computed) {Q : List Event → Result Value → Type 0} → ((z : ℤ) → i ≡ Ok z → Says Q (keep n (int z))) → (i ≡ (Err Undefined) → Q [] (stops 52 n)) → (i ≡ (Err Outside) → Q [] (stops 53 n)) → Says Q (keep_integer n i)
 unfolding keep_integer
-whole_says n (Whole z) k l m = k z refl
-whole_says n Undefined k l m = stop_says (l refl)
-whole_says n Outside k l m = stop_says (m refl)
+whole_says n (Ok z) k l m = k z refl
+whole_says n (Err Undefined) k l m = stop_says (l refl)
+whole_says n (Err Outside) k l m = stop_says (m refl)
 
 count_says : {B : Type 0} (n a b : ℕ) {Q : List Event → Result B → Type 0} (f : Unit {0} → Outcome B) → (a ≡ b → Says Q (f tt)) → ((a ≡ b → ⊥) → Q [] (stops 51 n)) → Says Q (same_count n a b >>= f)
 unfolding same_count count_if ◌>>=◌

@@ -7,7 +7,7 @@ use mathlib.Core.Logic.{inl, inr, ◌↔◌}
 use Prim.Native.Nat.{ℕ}
 use native.Mathlib.Omega.{arith}
 use Rattle.values.specs.Order.{compare, is_less}
-use Rattle.values.specs.declared.order.Order.{Order}
+use Rattle.std.specs.declared.cmp.Ordering.{Ordering}
 use Rattle.values.specs.Value.{Value, set, Values, nil, cons, count, encode}
 use Rattle.values.specs.WellFormed.{ascends, well_formed, all_well_formed}
 use Rattle.values.specs.SetValues.{same_value}
@@ -36,7 +36,7 @@ ascends_above p (cons v vs) h w (later m) =
 
 not_above_itself : (v : Value) → is_less (compare (encode v) (encode v)) ≡ true → ⊥
 unfolding is_less
-not_above_itself v h = false≢true (subst (λ (o : Order). is_less o ≡ true) (compare_refl (encode v)) h)
+not_above_itself v h = false≢true (subst (λ (o : Ordering). is_less o ≡ true) (compare_refl (encode v)) h)
 
 -- ---- what is the only pair
 pairs_only : {vs : Values} → AllPairs vs → SomeNoPair vs → ⊥

@@ -6,7 +6,7 @@ use native.Mathlib.Omega.{arith}
 use native.Mathlib.Nat.{mod-lt, zero-lt-suc}
 use lib.IntN.{ℤ, pos, negsuc}
 use Rattle.values_integers.specs.Integer.{remainder, by_divisor, floor_mod}
-use Rattle.values_integers.specs.declared.integer.Integer.TheVariants.{Whole}
+use Rattle.std.proofs.Common.{Ok}
 use Rattle.reader_rules.specs.Tree.{Expr, expr_node, Paragraph, abbreviation}
 use Rattle.reader_rules.specs.Tree as Tree
 use Rattle.states_rules.specs.States.{State}
@@ -26,7 +26,7 @@ not_run_lem _ (no_theta n s k) scope = refl
 not_run_lem _ (no_schema_set n i) scope = refl
 
 -- "a mod n lies in 0 to n − 1", n being d + 1
-pub mod_within : (a : ℤ) (d : ℕ) → (r : ℕ) × ((calculate Tree.remainder a (pos (suc d)) ≡ Whole (pos r)) × (r < suc d))
+pub mod_within : (a : ℤ) (d : ℕ) → (r : ℕ) × ((calculate Tree.remainder a (pos (suc d)) ≡ Ok (pos r)) × (r < suc d))
 unfolding calculate remainder by_divisor floor_mod
 mod_within (pos a) d = (a % suc d, (refl, mod-lt a (zero-lt-suc d)))
 mod_within (negsuc a) d = (suc d - suc (a % suc d), (refl, omega arith))

@@ -1,4 +1,5 @@
 -- The findings of a run: reading's, then 21, then 41, then holds, fails or 51 to 55.
+use Rattle.std.specs.Prelude.{Err}
 use mathlib.Core.Path.{◌≡◌, refl, sym, subst}
 use mathlib.Core.List.{List, [], ◌∷◌}
 use mathlib.Core.Bool.{Bool, true, false}
@@ -10,15 +11,13 @@ use Rattle.reader_rules.specs.Tree.{text, Lines, end, declaration, inclusion, Pa
 use Rattle.reader_rules.specs.Tree as Tree
 use Rattle.reader_rules.specs.Reading.{read_of}
 use Rattle.reader_rules.specs.Decode.{tree_of}
-use Rattle.reader_rules.specs.declared.Reading.{Reading}
-use Rattle.reader_rules.specs.declared.Reading.TheVariants.{Readable, Refused as Unreadable}
+use Rattle.reader_rules.specs.Refusals.{Finding, Readable, Refused}
 use Rattle.evaluator_rules.specs.Outcomes.{Outcome}
 use Rattle.evaluator_rules.specs.Environment.{Environment}
 use Rattle.states_rules.specs.Names.{document_names}
 use Rattle.states_rules.specs.States.{State, state_of}
 use Rattle.evaluator_rules.specs.Paragraphs.{Step, onward, failed, then, test_names, test_lines, run_paragraph, run_paragraphs, run_document}
 use Rattle.evaluator_rules.specs.Run.{ran, ending, run_state, run_work, run_read, run_of, run_work_words}
-use Rattle.evaluator_rules.specs.declared.Finding.TheVariants.{Refused}
 use Rattle.evaluator_rules.specs.Claims.{finished, ceased, RunFinds, unreadable, no_room, ill_formed, holds, fails, troubled, WellFormedState}
 use Rattle.evaluator_rules.proofs.Outcomes.{pure_good, choose_good}
 use Rattle.evaluator_rules.proofs.Findings.{Fine, bind_fine, include_fine, expr_fine, pred_fine, test_fine}
@@ -67,22 +66,22 @@ module _ (doc state : List ℕ) (work : ℕ) (read : read_of doc ≡ Readable) w
   ending_finds l w (finished {a = failed n} t _) = fails read l w t
   ending_finds l w (ceased t s) = troubled read l w t s
 
-  state_finds : run_work_words ≤ work → (r : Reading) → state_of (document_names (tree_of doc)) state ≡ r → RunFinds doc state work (run_state r (tree_of doc) state)
+  state_finds : run_work_words ≤ work → (r : Finding) → state_of (document_names (tree_of doc)) state ≡ r → RunFinds doc state work (run_state r (tree_of doc) state)
   unfolding run_state
   state_finds l Readable e = ending_finds l ((state_well (document_names (tree_of doc)) state).0 e) (document_fine (tree_of doc) _)
-  state_finds l (Unreadable n p) e =
-      let h = (state_ill (document_names (tree_of doc)) state n p).0 e in
-      subst (λ (x : ℕ). RunFinds doc state work (ran (Refused x p) [])) (sym h.0) (ill_formed read l h.1)
+  state_finds l (Err err) e =
+      let h = (state_ill (document_names (tree_of doc)) state err.number err.place).0 e in
+      subst (λ (x : ℕ). RunFinds doc state work (ran (Refused x err.place) [])) (sym h.0) (ill_formed read l h.1)
 
   work_finds : (b : Bool) → leb run_work_words work ≡ b → RunFinds doc state work (run_work b (tree_of doc) state)
   unfolding run_work
   work_finds true e = state_finds (leb-true run_work_words work e) _ refl
   work_finds false e = no_room read (leb-false run_work_words work e)
 
-read_finds : (doc state : List ℕ) (work : ℕ) (r : Reading) → read_of doc ≡ r → RunFinds doc state work (run_read r doc state work)
+read_finds : (doc state : List ℕ) (work : ℕ) (r : Finding) → read_of doc ≡ r → RunFinds doc state work (run_read r doc state work)
 unfolding run_read
 read_finds doc state work Readable e = work_finds doc state work e (leb run_work_words work) refl
-read_finds doc state work (Unreadable n p) e = unreadable e
+read_finds doc state work (Err err) e = unreadable e
 
 pub run_finds : (doc state : List ℕ) (work : ℕ) → RunFinds doc state work (run_of doc state work)
 unfolding run_of

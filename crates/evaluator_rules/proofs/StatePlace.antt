@@ -1,4 +1,5 @@
 -- 41 is decided by one place: the first ill-formed entry in the order of R20.
+use Rattle.std.specs.Prelude.{Err}
 use mathlib.Core.Path.{◌≡◌, refl, sym, ap, subst, ◌∙◌}
 use mathlib.Core.List.{List}
 use mathlib.Core.Bool.{Bool, true, false, cond}
@@ -9,9 +10,8 @@ use native.Mathlib.Nat.{eq-or-lt_of_le}
 use lib.ListN.{length}
 use Rattle.layout.specs.Layout.{part}
 use Rattle.reader_rules.specs.Findings.{found, scan, and_then}
-use Rattle.reader_rules.specs.declared.Reading.{Reading}
-use Rattle.reader_rules.specs.declared.Reading.TheVariants.{Readable, Refused}
-use Rattle.reader_rules.proofs.Scan.{found_zero, found_not, scan_none, scan_clear, then_none, never}
+use Rattle.reader_rules.specs.Refusals.{Finding, Readable, Refused}
+use Rattle.reader_rules.proofs.Scan.{found_zero, found_not, scan_none, scan_clear, then_none, never, same_refusal}
 use Rattle.values.specs.Form.{is_value}
 use Rattle.states_rules.specs.Names.{Name}
 use Rattle.states_rules.specs.States.{name_at, sizes_in, is_size, given_number, value_number, is_paired, entries_of, state_if, state_of}
@@ -24,9 +24,6 @@ pub record FoundFirst (f : ℕ → ℕ) (i m v p : ℕ) : Type 0 where
   pub before : p < i + m
   pub none : (j : ℕ) → i ≤ j → j < p → f j ≡ 0
   pub not_zero : v ≡ 0 → ⊥
-
-refused_same : (a b c d : ℕ) → Refused a b ≡ Refused c d → (a ≡ c) × (b ≡ d)
-refused_same a b c d e = (cc, cc)
 
 pub scan_found : (f : ℕ → ℕ) (i m v p : ℕ) → scan f i m ≡ Refused v p → FoundFirst f i m v p
 unfolding scan
@@ -46,7 +43,7 @@ scan_found f i (suc m) v p e = go (f i) refl e (λ x. scan_found f (suc i) m v p
           not_zero = r.not_zero;
         }
     go (suc x) z e later =
-        let s = refused_same (suc x) i v p e in
+        let s = same_refusal (suc x) i v p e in
         let i=p = s.1 in
         record {
           number = subst (λ (n : ℕ). f n ≡ v) s.1 (z ∙ s.0);
@@ -85,7 +82,7 @@ module _ (ns : List Name) (state : List ℕ) where
   unfolding value_number
   value_number_lem k x e z = other_number (name_at ns k).is_given (is_value (sizes_in ns state) (part state k)) x e z
 
-  entries_ill : (a : Reading) → is_paired ns state ≡ true → scan (given_number ns state) 1 (length ns) ≡ a → (n p : ℕ) →
+  entries_ill : (a : Finding) → is_paired ns state ≡ true → scan (given_number ns state) 1 (length ns) ≡ a → (n p : ℕ) →
       and_then a (scan (value_number ns state) 1 (length ns)) ≡ Refused n p → (n ≡ 41) × IllFormedState ns state p
   entries_ill Readable h s n p e =
       let f = scan_found (value_number ns state) 1 (length ns) n p e in
@@ -93,8 +90,8 @@ module _ (ns : List Name) (state : List ℕ) where
       let b = f.before in
       let v = value_number_lem p n f.number f.not_zero in
       (v, other {k = p} h (λ j x y. scan_none (given_number ns state) 1 (length ns) s j x (omega arith)) (omega arith) (omega arith) (f.number ∙ v) (λ j x y. f.none j x y))
-  entries_ill (Refused a b) h s n p e =
-      let r = refused_same a b n p e in
+  entries_ill (Err err) h s n p e =
+      let r = same_refusal err.number err.place n p e in
       let f = scan_found (given_number ns state) 1 (length ns) n p (s ∙ e) in
       let l = f.from in
       let q = f.before in
@@ -104,7 +101,7 @@ module _ (ns : List Name) (state : List ℕ) where
   state_if_ill : (b : Bool) → is_paired ns state ≡ b → (n p : ℕ) → state_if b ns state ≡ Refused n p → (n ≡ 41) × IllFormedState ns state p
   unfolding state_if entries_of
   state_if_ill true h n p e = entries_ill _ h refl n p e
-  state_if_ill false h n p e = let r = refused_same 41 0 n p e in (sym r.0, subst (IllFormedState ns state) r.1 (pairs h))
+  state_if_ill false h n p e = let r = same_refusal 41 0 n p e in (sym r.0, subst (IllFormedState ns state) r.1 (pairs h))
 
   state_if_well : (b : Bool) → is_paired ns state ≡ b → state_if b ns state ≡ Readable → WellFormedState ns state
   unfolding state_if entries_of
@@ -145,4 +142,4 @@ module _ (ns : List Name) (state : List ℕ) where
 
   -- one place
   pub one_place : (p q : ℕ) → IllFormedState ns state p → IllFormedState ns state q → p ≡ q
-  one_place p q h k = (refused_same 41 p 41 q (sym (ill_from h) ∙ ill_from k)).1
+  one_place p q h k = (same_refusal 41 p 41 q (sym (ill_from h) ∙ ill_from k)).1

@@ -7,7 +7,9 @@ use native.Mathlib.Omega.{arith}
 use Rattle.reader_rules.specs.Tree.{Expr, Lines, include, Paragraph, Document, document}
 use Rattle.reader_rules.specs.Reading.{read_of}
 use Rattle.reader_rules.specs.Decode.{tree_of}
-use Rattle.reader_rules.specs.declared.Reading.TheVariants.{Readable}
+use Rattle.reader_rules.specs.Refusals.{Readable, Refused}
+use Rattle.reader_rules.proofs.Scan.{same_refusal}
+use Rattle.evaluator_rules.specs.declared.Ending.{Ending}
 use Rattle.states_rules.specs.Names.{document_names}
 use Rattle.states_rules.specs.States.{State, value_in}
 use Rattle.evaluator_rules.specs.Outcomes.{Event, Outcome, done, stopped}
@@ -23,7 +25,6 @@ use Rattle.evaluator_rules.specs.Evaluations
 use Rattle.evaluator_rules.specs.Evaluations.{Stops, broke, Evaluation, working, telling, testing, including, StopsAt, EachName, Tested, Begins, BeginsIn, Within}
 use Rattle.evaluator_rules.specs.Troubles
 use Rattle.evaluator_rules.specs.Troubles.{Row, InRun, in_run, RunRefused}
-use Rattle.evaluator_rules.specs.declared.Finding.TheVariants.{Refused}
 use Rattle.evaluator_rules.proofs.StatePlace.{state_well}
 use Rattle.evaluator_rules.proofs.EvaluationLists.{Some, said, stop_said, come, stop_come, value_stop, value_stops, truth_stop, truth_stops, test_said, test_stop, test_comes, test_stops}
 use Rattle.evaluator_rules.proofs.TroublesWithin.{within_found, within_row}
@@ -97,7 +98,7 @@ ending_refused : (o : Outcome Step) (w m : ℕ) → (ending o).finding ≡ Refus
 unfolding ending
 ending_refused (done t (onward scope)) w m e = let z : ◌≡◌ {A = ℕ} 0 1 = cc in absurd (omega arith)
 ending_refused (done t (failed n)) w m e = let z : ◌≡◌ {A = ℕ} 0 1 = cc in absurd (omega arith)
-ending_refused (stopped t x n) w m e = let p : x ≡ w = cc in let q : n ≡ m = cc in subst (λ (z : ℕ). Stops {A = Step} (stopped t x n) z m) p (subst (λ (z : ℕ). Stops {A = Step} (stopped t x n) x z) q broke)
+ending_refused (stopped t x n) w m e = let s = same_refusal x n w m e in subst (λ (z : ℕ). Stops {A = Step} (stopped t x n) z m) s.0 (subst (λ (z : ℕ). Stops {A = Step} (stopped t x n) x z) s.1 broke)
 
 refused_ending : {o : Outcome Step} {w m : ℕ} → Stops o w m → (ending o).finding ≡ Refused w m
 unfolding ending
@@ -121,8 +122,8 @@ module _ (doc state : List ℕ) (work : ℕ) (read : read_of doc ≡ Readable) (
   run_stops {w = w} {m = m} {u = u} k h = (run_trouble w m).1 (u, k, h)
 
 module _ (doc state : List ℕ) (work : ℕ) where
-  renamed : {n p : ℕ} (w m : ℕ) → RunRefused doc state work n p → Refused n p ≡ Refused w m → RunRefused doc state work w m
-  renamed {n = n} {p = p} w m h e = let f : n ≡ w = cc in let g : p ≡ m = cc in subst (λ (z : ℕ). RunRefused doc state work z m) f (subst (λ (z : ℕ). RunRefused doc state work n z) g h)
+  renamed : {n p : ℕ} (w m : ℕ) → RunRefused doc state work n p → Refused {A = Ending} n p ≡ Refused w m → RunRefused doc state work w m
+  renamed {n = n} {p = p} w m h e = let s = same_refusal n p w m e in subst (λ (z : ℕ). RunRefused doc state work z m) s.0 (subst (λ (z : ℕ). RunRefused doc state work n z) s.1 h)
 
   refused : {r : Ran} (w m : ℕ) → Lists doc state work r → run_of doc state work ≡ r → r.finding ≡ Refused w m → RunRefused doc state work w m
   refused w m (ListingRun.unreadable h) e f = renamed w m (Troubles.unreadable h) f

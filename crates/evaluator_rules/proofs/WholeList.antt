@@ -1,4 +1,5 @@
 -- The run's finding and list are those of the sentences of the list, and these give one only (specs/ListingRun).
+use Rattle.std.specs.Prelude.{Err}
 use mathlib.Core.Path.{◌≡◌, refl, ap, sym, subst, ◌∙◌}
 use mathlib.Core.List.{List, [], ◌∷◌, ◌++◌, append-nil}
 use mathlib.Core.Bool.{Bool, true, false}
@@ -9,8 +10,8 @@ use Rattle.values.specs.Value.{Value}
 use Rattle.reader_rules.specs.Tree.{Expr, Lines, end, declaration, inclusion, include, text, Paragraph, given, axiomatic, schema, abbreviation, constraint, Document, document}
 use Rattle.reader_rules.specs.Reading.{read_of}
 use Rattle.reader_rules.specs.Decode.{tree_of}
-use Rattle.reader_rules.specs.declared.Reading.{Reading}
-use Rattle.reader_rules.specs.declared.Reading.TheVariants.{Readable, Refused as Unreadable}
+use Rattle.reader_rules.specs.Refusals.{Finding, Readable, Refused}
+use Rattle.evaluator_rules.specs.Endings.{Holds, Fails}
 use Rattle.states_rules.specs.Names.{document_names}
 use Rattle.states_rules.specs.States.{State, state_of, value_in}
 use Rattle.evaluator_rules.specs.Outcomes.{Event, Outcome, ◌>>=◌}
@@ -22,7 +23,6 @@ use Rattle.evaluator_rules.specs.Claims.{WellFormedState}
 use Rattle.evaluator_rules.specs.Listing.{Result, gives, stops, Tests}
 use Rattle.evaluator_rules.specs.ListingRun
 use Rattle.evaluator_rules.specs.ListingRun.{Ends, TestsNames, TestsLines, Runs, RunsAll, RunsDocument, Lists, WholeList}
-use Rattle.evaluator_rules.specs.declared.Finding.TheVariants.{Holds, Fails, Refused}
 use Rattle.evaluator_rules.proofs.StatePlace.{state_ill, state_well}
 use Rattle.evaluator_rules.proofs.Said.{Says, pure_says, stop_says, bind_says, truth_says, other_says}
 use Rattle.evaluator_rules.proofs.Said as Said
@@ -84,22 +84,22 @@ module _ (doc state : List ℕ) (work : ℕ) (read : read_of doc ≡ Readable) w
   ending_lists l w (Said.finished {a = failed n} h) = ListingRun.fails read l w h
   ending_lists l w (Said.ceased h) = ListingRun.troubled read l w h
 
-  state_lists : run_work_words ≤ work → (r : Reading) → state_of (document_names (tree_of doc)) state ≡ r → Lists doc state work (run_state r (tree_of doc) state)
+  state_lists : run_work_words ≤ work → (r : Finding) → state_of (document_names (tree_of doc)) state ≡ r → Lists doc state work (run_state r (tree_of doc) state)
   unfolding run_state
   state_lists l Readable e = ending_lists l ((state_well (document_names (tree_of doc)) state).0 e) (document_says _ (tree_of doc))
-  state_lists l (Unreadable n p) e =
-      let h = (state_ill (document_names (tree_of doc)) state n p).0 e in
-      subst (λ (x : ℕ). Lists doc state work (ran (Refused x p) [])) (sym h.0) (ListingRun.ill_formed read l h.1)
+  state_lists l (Err err) e =
+      let h = (state_ill (document_names (tree_of doc)) state err.number err.place).0 e in
+      subst (λ (x : ℕ). Lists doc state work (ran (Refused x err.place) [])) (sym h.0) (ListingRun.ill_formed read l h.1)
 
   work_lists : (b : Bool) → leb run_work_words work ≡ b → Lists doc state work (run_work b (tree_of doc) state)
   unfolding run_work
   work_lists true e = state_lists (leb-true run_work_words work e) _ refl
   work_lists false e = ListingRun.no_room read (leb-false run_work_words work e)
 
-read_lists : (doc state : List ℕ) (work : ℕ) (r : Reading) → read_of doc ≡ r → Lists doc state work (run_read r doc state work)
+read_lists : (doc state : List ℕ) (work : ℕ) (r : Finding) → read_of doc ≡ r → Lists doc state work (run_read r doc state work)
 unfolding run_read
 read_lists doc state work Readable e = work_lists doc state work e (leb run_work_words work) refl
-read_lists doc state work (Unreadable n p) e = ListingRun.unreadable e
+read_lists doc state work (Err err) e = ListingRun.unreadable e
 
 -- for every document, state and work area, the run's finding and list are given
 pub run_lists : (doc state : List ℕ) (work : ℕ) → Lists doc state work (run_of doc state work)
@@ -171,11 +171,11 @@ ending_of ceased = refl
 module _ (doc state : List ℕ) (work : ℕ) (read : read_of doc ≡ Readable) where
   no_room_lem : work < run_work_words → run_of doc state work ≡ ran (Refused 21 0) []
   unfolding run_of run_read run_work
-  no_room_lem l = ap (λ (r : Reading). run_read r doc state work) read ∙ ap (λ (b : Bool). run_work b (tree_of doc) state) (lt-leb run_work_words work l)
+  no_room_lem l = ap (λ (r : Finding). run_read r doc state work) read ∙ ap (λ (b : Bool). run_work b (tree_of doc) state) (lt-leb run_work_words work l)
 
-  pub by_state : run_work_words ≤ work → (r : Reading) → state_of (document_names (tree_of doc)) state ≡ r → run_of doc state work ≡ run_state r (tree_of doc) state
+  pub by_state : run_work_words ≤ work → (r : Finding) → state_of (document_names (tree_of doc)) state ≡ r → run_of doc state work ≡ run_state r (tree_of doc) state
   unfolding run_of run_read run_work
-  by_state l r e = ap (λ (x : Reading). run_read x doc state work) read ∙ ap (λ (b : Bool). run_work b (tree_of doc) state) (le-leb run_work_words work l) ∙ ap (λ (x : Reading). run_state x (tree_of doc) state) e
+  by_state l r e = ap (λ (x : Finding). run_read x doc state work) read ∙ ap (λ (b : Bool). run_work b (tree_of doc) state) (le-leb run_work_words work l) ∙ ap (λ (x : Finding). run_state x (tree_of doc) state) e
 
   by_run : run_work_words ≤ work → WellFormedState (document_names (tree_of doc)) state → {t : List Event} {r : Result Step} → RunsDocument (value_in (document_names (tree_of doc)) state) (tree_of doc) t r → run_of doc state work ≡ ending_of_lem t r
   unfolding run_state
@@ -183,9 +183,9 @@ module _ (doc state : List ℕ) (work : ℕ) (read : read_of doc ≡ Readable) w
 
 pub lists_run : (doc state : List ℕ) (work : ℕ) (r : Ran) → Lists doc state work r → run_of doc state work ≡ r
 unfolding run_of run_read run_state ending_of_lem
-lists_run doc state work _ (ListingRun.unreadable e) = ap (λ (r : Reading). run_read r doc state work) e
+lists_run doc state work _ (ListingRun.unreadable e) = ap (λ (r : Finding). run_read r doc state work) e
 lists_run doc state work _ (ListingRun.no_room e l) = no_room_lem doc state work e l
-lists_run doc state work _ (ListingRun.ill_formed {p = p} e l i) = by_state doc state work e l (Unreadable 41 p) ((state_ill (document_names (tree_of doc)) state 41 p).1 (refl, i))
+lists_run doc state work _ (ListingRun.ill_formed {p = p} e l i) = by_state doc state work e l (Refused 41 p) ((state_ill (document_names (tree_of doc)) state 41 p).1 (refl, i))
 lists_run doc state work _ (ListingRun.holds e l w h) = by_run doc state work e l w h
 lists_run doc state work _ (ListingRun.fails e l w h) = by_run doc state work e l w h
 lists_run doc state work _ (ListingRun.troubled e l w h) = by_run doc state work e l w h

@@ -5,13 +5,13 @@ use Rattle.values.specs.WellFormed.{well_formed}
 use Rattle.reader_rules.specs.Tree.{Expr, Include, integers, selection, theta, schema_set}
 use Rattle.reader_rules.specs.Reading.{read_of}
 use Rattle.reader_rules.specs.Decode.{tree_of}
-use Rattle.reader_rules.specs.declared.Reading.TheVariants.{Readable, Refused as Unreadable}
+use Rattle.reader_rules.specs.Refusals.{Readable, Refused}
+use Rattle.evaluator_rules.specs.Endings.{Holds, Fails}
 use Rattle.evaluator_rules.specs.WordCount.{word_count}
 use Rattle.evaluator_rules.specs.Outcomes.{Event, worked, Outcome, done, stopped}
 use Rattle.states_rules.specs.Names.{Name, document_names}
 use Rattle.states_rules.specs.States.{is_paired, given_number, value_number}
 use Rattle.evaluator_rules.specs.Run.{Ran, ran, run_work_words}
-use Rattle.evaluator_rules.specs.declared.Finding.TheVariants.{Holds, Fails, Refused}
 
 pub data Listed (E : ℕ → Value → Type 0) : List Event → Type 0 where
   empty : Listed E []
@@ -54,7 +54,7 @@ Trouble number node = (51 ≤ number) × (number ≤ 55)
 
 -- the findings of a run, in their order: reading's, 21, 41, the paragraphs'
 pub data RunFinds (doc state : List ℕ) (work : ℕ) : Ran → Type 0 where
-  unreadable : {n p : ℕ} → read_of doc ≡ Unreadable n p → RunFinds doc state work (ran (Refused n p) [])
+  unreadable : {n p : ℕ} → read_of doc ≡ Refused n p → RunFinds doc state work (ran (Refused n p) [])
   no_room : read_of doc ≡ Readable → work < run_work_words → RunFinds doc state work (ran (Refused 21 0) [])
   ill_formed : {p : ℕ} → read_of doc ≡ Readable → run_work_words ≤ work → IllFormedState (document_names (tree_of doc)) state p → RunFinds doc state work (ran (Refused 41 p) [])
   holds : {t : List Event} → read_of doc ≡ Readable → run_work_words ≤ work → WellFormedState (document_names (tree_of doc)) state → Listed Short t → RunFinds doc state work (ran Holds t)

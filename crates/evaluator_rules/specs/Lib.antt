@@ -1,4 +1,5 @@
 -- Document 01, "States and runs", in reading order.
+pub mod Endings
 pub mod WordCount
 pub mod Outcomes
 pub mod Environment

@@ -5,9 +5,9 @@
 use Rattle.std.specs.Prelude.{◌≡◌, ◌⊎◌, List, [], ◌∷◌, ◌++◌, Bool, true, false, not, ℕ, ◌≤◌, ◌<◌, ℤ, pos}
 use Rattle.std.specs.Int.Signed.{le_z}
 use Rattle.values.specs.Value.{Value, int, Values, nil, cons, count}
-use Rattle.values.specs.Value as Value
 use Rattle.values.specs.SetValues.{same_value, is_in, insert_value}
-use Rattle.values_integers.specs.declared.integer.Integer.TheVariants.{Whole, Undefined, Outside}
+use Rattle.std.specs.Prelude.{Ok, Err}
+use Rattle.values_integers.specs.declared.integer.ArithmeticError.TheVariants.{Undefined, Outside}
 use Rattle.enumeration_rules.specs.Enumeration.{subsets, tuples}
 use Rattle.reader_rules.specs.Tree.{Connective, and, or, implies, Quantifier, forall, exists, Operator}
 use Rattle.reader_rules.specs.Tree.{Expr, reference, number, integers, set, tuple, product, power, application, selection, theta, schema_set, arithmetic}
@@ -131,11 +131,11 @@ mutual
         → Works (arithmetic n o a b) scope (t ++ u) (stops w m)
     no_number : {n : ℕ} {o : Operator} {a b : Expr} {scope : Environment} {t u : List Event} {x y : Value} → Works a scope t (gives x) → Works b scope u (gives y) → NoInteger x ⊎ NoInteger y
         → Works (arithmetic n o a b) scope (t ++ u) (stops 51 n)
-    no_result : {n : ℕ} {o : Operator} {a b : Expr} {scope : Environment} {t u : List Event} {j k : ℤ} → Works a scope t (gives (int j)) → Works b scope u (gives (int k)) → calculate o j k ≡ Undefined
+    no_result : {n : ℕ} {o : Operator} {a b : Expr} {scope : Environment} {t u : List Event} {j k : ℤ} → Works a scope t (gives (int j)) → Works b scope u (gives (int k)) → calculate o j k ≡ (Err Undefined)
         → Works (arithmetic n o a b) scope (t ++ u) (stops 52 n)
-    outside : {n : ℕ} {o : Operator} {a b : Expr} {scope : Environment} {t u : List Event} {j k : ℤ} → Works a scope t (gives (int j)) → Works b scope u (gives (int k)) → calculate o j k ≡ Outside
+    outside : {n : ℕ} {o : Operator} {a b : Expr} {scope : Environment} {t u : List Event} {j k : ℤ} → Works a scope t (gives (int j)) → Works b scope u (gives (int k)) → calculate o j k ≡ (Err Outside)
         → Works (arithmetic n o a b) scope (t ++ u) (stops 53 n)
-    calculated : {n : ℕ} {o : Operator} {a b : Expr} {scope : Environment} {t u l : List Event} {j k z : ℤ} {r : Result Value} → Works a scope t (gives (int j)) → Works b scope u (gives (int k)) → calculate o j k ≡ Whole z
+    calculated : {n : ℕ} {o : Operator} {a b : Expr} {scope : Environment} {t u l : List Event} {j k z : ℤ} {r : Result Value} → Works a scope t (gives (int j)) → Works b scope u (gives (int k)) → calculate o j k ≡ Ok z
         → Enters n (int z) l r → Works (arithmetic n o a b) scope (t ++ (u ++ l)) r
     -- "A Text's Decl sets are worked out once, then assignments run ..; a Comprehension adds each body"
     sets_stop : {n k : ℕ} {p : Pred} {ls : Lines} {a : Expr} {scope : Environment} {t : List Event} {w m : ℕ} → Declares ls scope t (stops w m) → Works (comprehension n (text k p ls) a) scope t (stops w m)

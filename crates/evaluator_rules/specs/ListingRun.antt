@@ -4,7 +4,8 @@ use Rattle.values.specs.Value.{Value}
 use Rattle.reader_rules.specs.Tree.{Expr, Exprs, Pred, Lines, end, declaration, inclusion, include, text, Schema, Paragraph, given, axiomatic, schema, abbreviation, constraint, Document, document}
 use Rattle.reader_rules.specs.Reading.{read_of}
 use Rattle.reader_rules.specs.Decode.{tree_of}
-use Rattle.reader_rules.specs.declared.Reading.TheVariants.{Readable, Refused as Unreadable}
+use Rattle.reader_rules.specs.Refusals.{Readable, Refused}
+use Rattle.evaluator_rules.specs.Endings.{Holds, Fails}
 use Rattle.states_rules.specs.Names.{document_names}
 use Rattle.states_rules.specs.States.{State, value_in}
 use Rattle.evaluator_rules.specs.Outcomes.{Event}
@@ -13,7 +14,6 @@ use Rattle.evaluator_rules.specs.Paragraphs.{Step, onward, failed, bind_givens}
 use Rattle.evaluator_rules.specs.Run.{Ran, ran, run_of, run_work_words}
 use Rattle.evaluator_rules.specs.Claims.{IllFormedState, WellFormedState}
 use Rattle.evaluator_rules.specs.Listing.{Result, gives, stops, Works, Tells, Tests}
-use Rattle.evaluator_rules.specs.declared.Finding.TheVariants.{Holds, Fails, Refused}
 
 -- the run ends here: a failure at a node, or a stop
 pub data Ends : Result Step → Type 0 where
@@ -69,7 +69,7 @@ pub data RunsDocument (state : State) : Document → List Event → Result Step 
 
 -- The run of a document's words with a state's, in a work area of `work` words: its finding and its list. A refusal before the paragraphs has no list.
 pub data Lists (doc state : List ℕ) (work : ℕ) : Ran → Type 0 where
-  unreadable : {n p : ℕ} → read_of doc ≡ Unreadable n p → Lists doc state work (ran (Refused n p) [])
+  unreadable : {n p : ℕ} → read_of doc ≡ Refused n p → Lists doc state work (ran (Refused n p) [])
   no_room : read_of doc ≡ Readable → work < run_work_words → Lists doc state work (ran (Refused 21 0) [])
   ill_formed : {p : ℕ} → read_of doc ≡ Readable → run_work_words ≤ work → IllFormedState (document_names (tree_of doc)) state p → Lists doc state work (ran (Refused 41 p) [])
   holds : {t : List Event} {scope : Environment} → read_of doc ≡ Readable → run_work_words ≤ work → WellFormedState (document_names (tree_of doc)) state

@@ -1,25 +1,24 @@
 -- What the operations do with the values of their operands.
-use Rattle.std.specs.Prelude.{Bool, true, false, List, [], ◌∷◌, ℕ, ℤ, leb, eqb}
+use Rattle.std.specs.Prelude.{Bool, true, false, List, [], ◌∷◌, ℕ, ℤ, leb, eqb, None, Ok, Err}
 use Rattle.values.specs.Value.{Value, int, element, set, tuple, Values, nil, cons}
 use Rattle.values_integers.specs.Integer.{integer_finding, sum, difference, product, quotient, remainder}
 use Rattle.values.specs.Numbers.{number_finding}
 use Rattle.values.specs.Sets.{apply_finding}
-use Rattle.values_integers.specs.declared.integer.Integer.{Integer}
-use Rattle.values_integers.specs.declared.integer.Integer.TheVariants.{Whole, Undefined, Outside}
-use Rattle.values.specs.declared.numbers.Number.TheVariants as Number
-use Rattle.values.specs.declared.sets.Applied.TheVariants as Applied
+use Rattle.values_integers.specs.Integer.{Computed}
+use Rattle.values_integers.specs.declared.integer.ArithmeticError.TheVariants.{Undefined, Outside}
+use Rattle.values.specs.Applied as Applied
 use Rattle.reader_rules.specs.Tree.{Operator, plus, minus, times, Connective, and, or, implies}
 use Rattle.reader_rules.specs.Tree as Tree
 use Rattle.values.specs.SetValues.{insert_value, Image, found, misfit, undefined, apply_value}
 use Rattle.evaluator_rules.specs.WordCount.{word_count}
 use Rattle.evaluator_rules.specs.Outcomes.{Outcome, ◌>>=◌, pure, stop, keep}
 
--- 51: a value of a sort that the operation at node n cannot use. The numbers of enums stand in `integerFinding`, `numberFinding`, `applyFinding`.
+-- 51: a value of a sort that the operation at node n cannot use. The numbers of enums stand in `integer_finding`, `number_finding`, `apply_finding`.
 unfoldable pub as_integer : ℕ → Value → Outcome ℤ
 as_integer n (int z) = pure z
-as_integer n (element g k) = stop (number_finding Number.Misfit) n
-as_integer n (set vs) = stop (number_finding Number.Misfit) n
-as_integer n (tuple vs) = stop (number_finding Number.Misfit) n
+as_integer n (element g k) = stop (number_finding None) n
+as_integer n (set vs) = stop (number_finding None) n
+as_integer n (tuple vs) = stop (number_finding None) n
 
 unfoldable pub as_set : ℕ → Value → Outcome Values
 as_set n (int z) = stop 51 n
@@ -56,12 +55,12 @@ unfoldable pub find_pair : ℕ → Value → Values → Outcome Value
 find_pair n a vs = image n (apply_value a vs)
 
 -- arithmetic: 52 where there is no result, then 53 where it is outside 32 bits signed (R23)
-unfoldable pub keep_integer : ℕ → Integer → Outcome Value
-keep_integer n (Whole z) = keep n (int z)
-keep_integer n Undefined = stop (integer_finding Undefined) n
-keep_integer n Outside = stop (integer_finding Outside) n
+unfoldable pub keep_integer : ℕ → Computed → Outcome Value
+keep_integer n (Ok z) = keep n (int z)
+keep_integer n (Err Undefined) = stop (integer_finding (Err Undefined)) n
+keep_integer n (Err Outside) = stop (integer_finding (Err Outside)) n
 
-unfoldable pub calculate : Operator → ℤ → ℤ → Integer
+unfoldable pub calculate : Operator → ℤ → ℤ → Computed
 calculate plus a b = sum a b
 calculate minus a b = difference a b
 calculate times a b = product a b

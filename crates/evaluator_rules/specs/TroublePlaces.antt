@@ -8,7 +8,7 @@ use Rattle.reader_rules.specs.Tree as Tree
 use Rattle.reader_rules.specs.Places.{At}
 use Rattle.reader_rules.specs.Reading.{read_of}
 use Rattle.reader_rules.specs.Decode.{tree_of}
-use Rattle.reader_rules.specs.declared.Reading.TheVariants.{Readable}
+use Rattle.reader_rules.specs.Refusals.{Readable, Refused}
 use Rattle.states_rules.specs.Names.{document_names}
 use Rattle.states_rules.specs.States.{State}
 use Rattle.evaluator_rules.specs.Environment.{Environment}
@@ -16,7 +16,6 @@ use Rattle.evaluator_rules.specs.Paragraphs.{run_paragraph}
 use Rattle.evaluator_rules.specs.Run.{run_of, run_work_words}
 use Rattle.evaluator_rules.specs.Claims.{Trouble, WellFormedState}
 use Rattle.evaluator_rules.specs.Evaluations.{Stops, Evaluation, working, telling, testing, declaring, including, StopsAt}
-use Rattle.evaluator_rules.specs.declared.Finding.TheVariants.{Refused}
 
 -- 52 at div and mod alone, 53 at the others
 unfoldable pub numbers_of : Operator → List ℕ

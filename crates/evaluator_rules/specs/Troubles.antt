@@ -12,7 +12,7 @@ use Rattle.reader_rules.specs.Tree.{arithmetic, comprehension, Exprs, none, more
 use Rattle.reader_rules.specs.Tree.{Paragraph, Document, document, expr_node, exprs_length}
 use Rattle.reader_rules.specs.Reading.{read_of}
 use Rattle.reader_rules.specs.Decode.{tree_of}
-use Rattle.reader_rules.specs.declared.Reading.TheVariants.{Readable, Refused as Unreadable}
+use Rattle.reader_rules.specs.Refusals.{Readable, Refused}
 use Rattle.states_rules.specs.Names.{document_names}
 use Rattle.states_rules.specs.States.{State, value_in}
 use Rattle.evaluator_rules.specs.WordCount.{word_count}
@@ -25,7 +25,6 @@ use Rattle.evaluator_rules.specs.Claims.{NotRun, IllFormedState, WellFormedState
 use Rattle.evaluator_rules.specs.Applications.{SomeNoPair, Images}
 use Rattle.evaluator_rules.specs.Listing.{NoInteger, NoSet, NoTuple, SomeNoSet, AllSets, Another, assignments}
 use Rattle.evaluator_rules.specs.Evaluations.{Gives, Stops, Evaluation, working, telling, testing, declaring, including, StopsAt, Adding, Gathering, Reaches, Within, Begins, BeginsIn}
-use Rattle.evaluator_rules.specs.declared.Finding.TheVariants.{Refused}
 
 -- ---- arithmetic
 pub data Divides : Operator → Type 0 where
@@ -115,7 +114,7 @@ pub data InRun (state : State) : Document → Evaluation → Type 0 where
 
 -- the refusals of a run, with number and place
 pub data RunRefused (doc state : List ℕ) (work : ℕ) : ℕ → ℕ → Type 0 where
-  unreadable : {w m : ℕ} → read_of doc ≡ Unreadable w m → RunRefused doc state work w m
+  unreadable : {w m : ℕ} → read_of doc ≡ Refused w m → RunRefused doc state work w m
   no_room : read_of doc ≡ Readable → work < run_work_words → RunRefused doc state work 21 0
   ill_formed : {m : ℕ} → read_of doc ≡ Readable → run_work_words ≤ work → IllFormedState (document_names (tree_of doc)) state m → RunRefused doc state work 41 m
   troubled : {w m : ℕ} {u : Evaluation} → read_of doc ≡ Readable → run_work_words ≤ work → WellFormedState (document_names (tree_of doc)) state → InRun (value_in (document_names (tree_of doc)) state) (tree_of doc) u → Row w m u

@@ -15,16 +15,15 @@ use Rattle.values.proofs.Holding.{held_len}
 use lib.Seq.{sets, length-sets, get_or-take, get_or-drop, get_or-set_same, get_or-set_other, take-set-le, drop-set-lt, take-take, drop-drop}
 use borrow.Author.Tests.{eq-eqb, ne_eqb, eqb-true, eqb-false}
 use Rattle.values.specs.Value.{Value, Values, encode}
-use Rattle.values.specs.Value as Value
 use Rattle.evaluator_rules.specs.Environment.{Meaning, valued, generic, unknown, Environment, empty, bind, lookup, pick, refer, has_actuals}
-use Rattle.evaluator_rules.specs.Assignments.{Domains, no_more, domain, domains}
+use Rattle.evaluator_rules.specs.Assignments.{Domains, no_more, domains}
 use Rattle.evaluator_scope.specs.Blocks.{field, Lies, Stored, Means, in_state, in_work, is_generic, Scoped, hidden, named, Pending, more, last_block, headed, value_of, Pushed, Leaves, head_words, block_words}
 use Rattle.evaluator_scope.specs.Blocks as Blocks
 use Rattle.values.specs.Lookup.{value_at}
-use Rattle.values.specs.Held.{keep as words}
 use Rattle.reader_rules.specs.Tree.{Exprs}
 use Rattle.reader_rules.specs.Tree as Tree
-use Rattle.evaluator_operations.specs.declared.worked.Judgement.{Judgement}
+use Rattle.std.proofs.Common.{Ok, Err}
+use Rattle.reader_rules.specs.declared.Refusal.{Refusal}
 use Rattle.evaluator_operations.specs.Worked.{Holds, Told, Stops}
 use Rattle.evaluator_operations.proofs.ToldLaws.{stop_told}
 use Rattle.evaluator_operations.proofs.GatherLaws.{copied}
@@ -209,57 +208,46 @@ module _ (work : List ℕ) (i : ℕ) where
   block_none = refl
 
 -- ---- a Ref to the name of a block
-module _ (state work : List ℕ) (b k : ℕ) (m : Meaning) (f : FoundBlock state work b m) (xs : Exprs) (r : Judgement) where
-  pub refer_unknown : {R : Judgement → Value → Type 0} → b ≡ 0 → Stops r 51 k → Told R r (refer k xs m)
+pub refer_unknown : (state work : List ℕ) (k : ℕ) (m : Meaning) → FoundBlock state work 0 m → (xs : Exprs) {C : Type 0} {R : C → Value → Type 0} {e : Refusal} → Stops e 51 k → Told R (Err e) (refer k xs m)
+unfolding refer
+refer_unknown state work k m f xs {R = R} {e = e} s = rw f (go xs)
+  where
+    go : (ys : Exprs) → Told R (Err e) (refer k ys unknown)
+    go Tree.none = stop_told s (λ z. omega arith)
+    go (Tree.more a ys) = stop_told s (λ z. omega arith)
+
+module _ (state work : List ℕ) (b k : ℕ) (m : Meaning) (f : Means state work b m) (xs : Exprs) {C : Type 0} {R : C → Value → Type 0} where
+  pub refer_generic : {e : Refusal} → field work b 1 ≡ 3 → Stops e 54 k → Told R (Err e) (refer k xs m)
   unfolding refer
-  refer_unknown {R} e s = rw (unknown_of b e f) (go xs)
+  refer_generic {e} c s = go m f xs
     where
-      unknown_of : (c : ℕ) → c ≡ 0 → FoundBlock state work c m → m ≡ unknown
-      unknown_of zero q g = g
-      unknown_of (suc c) q g = absurd (omega arith)
-
-      go : (ys : Exprs) → Told R r (refer k ys unknown)
-      go Tree.none = stop_told s (λ z. omega arith)
-      go (Tree.more a ys) = stop_told s (λ z. omega arith)
-
-  means_of : (b ≡ 0 → ⊥) → Means state work (b - 1) m
-  means_of h = go b h f
-    where
-      go : (c : ℕ) → (c ≡ 0 → ⊥) → FoundBlock state work c m → Means state work (c - 1) m
-      go zero q g = absurd (q refl)
-      go (suc c) q g = let e : c ≡ suc c - 1 = omega arith in subst (λ (j : ℕ). Means state work j m) e g
-
-  pub refer_generic : {R : Judgement → Value → Type 0} → (b ≡ 0 → ⊥) → field work (b - 1) 1 ≡ 3 → Stops r 54 k → Told R r (refer k xs m)
-  unfolding refer
-  refer_generic {R} g c s = go m (means_of g) xs
-    where
-      go : (n : Meaning) → Means state work (b - 1) n → (ys : Exprs) → Told R r (refer k ys n)
+      go : (n : Meaning) → Means state work b n → (ys : Exprs) → Told R (Err e) (refer k ys n)
       go (valued v) (in_state d t) ys = absurd (omega arith)
       go (valued v) (in_work d l t) ys = absurd (omega arith)
       go unknown q ys = elim q [ ]
       go generic (is_generic d) Tree.none = stop_told s (λ z. omega arith)
       go generic (is_generic d) (Tree.more a ys) = stop_told s (λ z. omega arith)
 
-  pub refer_actuals : {R : Judgement → Value → Type 0} → (b ≡ 0 → ⊥) → (field work (b - 1) 1 ≡ 3 → ⊥) → true ≡ has_actuals xs → Stops r 51 k → Told R r (refer k xs m)
+  pub refer_actuals : {e : Refusal} → (field work b 1 ≡ 3 → ⊥) → true ≡ has_actuals xs → Stops e 51 k → Told R (Err e) (refer k xs m)
   unfolding refer has_actuals
-  refer_actuals {R} g c a s = go m (means_of g) xs a
+  refer_actuals {e} c a s = go m f xs a
     where
-      go : (n : Meaning) → Means state work (b - 1) n → (ys : Exprs) → true ≡ has_actuals ys → Told R r (refer k ys n)
-      go n q Tree.none e = absurd (true≢false e)
-      go (valued v) (in_state d t) (Tree.more y ys) e = stop_told s (λ z. omega arith)
-      go (valued v) (in_work d l t) (Tree.more y ys) e = stop_told s (λ z. omega arith)
-      go generic (is_generic d) (Tree.more y ys) e = absurd (c d)
-      go unknown q (Tree.more y ys) e = elim q [ ]
+      go : (n : Meaning) → Means state work b n → (ys : Exprs) → true ≡ has_actuals ys → Told R (Err e) (refer k ys n)
+      go n q Tree.none h = absurd (true≢false h)
+      go (valued v) (in_state d t) (Tree.more y ys) h = stop_told s (λ z. omega arith)
+      go (valued v) (in_work d l t) (Tree.more y ys) h = stop_told s (λ z. omega arith)
+      go generic (is_generic d) (Tree.more y ys) h = absurd (c d)
+      go unknown q (Tree.more y ys) h = elim q [ ]
 
-  pub refer_value : {R : Judgement → Value → Type 0} → (b ≡ 0 → ⊥) → (field work (b - 1) 1 ≡ 3 → ⊥) → false ≡ has_actuals xs → r.number ≡ 0 →
-      ((v : Value) → Stored (value_of state work (b - 1)) v → R r v) → Told R r (refer k xs m)
+  pub refer_value : {r : C} → (field work b 1 ≡ 3 → ⊥) → false ≡ has_actuals xs →
+      ((v : Value) → Stored (value_of state work b) v → R r v) → Told R (Ok r) (refer k xs m)
   unfolding refer has_actuals value_of value_at
-  refer_value {R} g c a z w = go m (means_of g) xs a
+  refer_value {r} c a w = go m f xs a
     where
-      go : (n : Meaning) → Means state work (b - 1) n → (ys : Exprs) → false ≡ has_actuals ys → Told R r (refer k ys n)
+      go : (n : Meaning) → Means state work b n → (ys : Exprs) → false ≡ has_actuals ys → Told R (Ok r) (refer k ys n)
       go n q (Tree.more y ys) e = absurd (true≢false (sym e))
-      go (valued v) (in_state d t) Tree.none e = keep_told k v r z t.short (w v (rw (eq-eqb (field work (b - 1) 1) 1 d) t))
-      go (valued v) (in_work d l t) Tree.none e = keep_told k v r z t.short (w v (rw (ne_eqb (field work (b - 1) 1) 1 (λ y. omega arith)) t))
+      go (valued v) (in_state d t) Tree.none e = keep_told k v t.short (w v (rw (eq-eqb (field work b 1) 1 d) t))
+      go (valued v) (in_work d l t) Tree.none e = keep_told k v t.short (w v (rw (ne_eqb (field work b 1) 1 (λ y. omega arith)) t))
       go generic (is_generic d) Tree.none e = absurd (c d)
       go unknown q Tree.none e = elim q [ ]
 
@@ -272,8 +260,11 @@ length_headed : (work : List ℕ) (b name class at len : ℕ) → length (headed
 unfolding headed
 length_headed work b name class at len = simp length-set
 
-pub pushed_none : (work x : List ℕ) (b j : ℕ) (v : Held) → length x ≤ j →
-    Pushed work work b (length x - j) ((vs : Values) → Holds v (Value.set vs) → Pending work b (length x - j) (domains (drop j x) vs no_more))
+-- the identifiers of the words x, from j on, in blocks from b on, with the set v
+abbrev pub Domained : List ℕ → List ℕ → List ℕ → ℕ → ℕ → Held → Type 0
+Domained before after x b j v = Pushed before after b (length x - j) ((vs : Values) → Holds v (Value.set vs) → Pending after b (length x - j) (domains (drop j x) vs no_more))
+
+pub pushed_none : (work x : List ℕ) (b j : ℕ) (v : Held) → length x ≤ j → Domained work work x b j v
 unfolding domains
 pushed_none work x b j v h =
     let z : length x - j ≡ 0 = omega arith in
@@ -283,8 +274,7 @@ module _ (w0 w1 w2 w3 x : List ℕ) (b j : ℕ) (v : Held) (e1 : w1 ≡ headed w
   below4 : take (block_words * b + head_words) w2 ≡ take (block_words * b + head_words) w1
   below4 = rw e2 (take_sets v.words w1 (block_words * b + head_words) (block_words * b + head_words) (omega arith))
 
-  pub pushed_more : Pushed w2 w3 (b + 1) (length x - (j + 1)) ((vs : Values) → Holds v (Value.set vs) → Pending w3 (b + 1) (length x - (j + 1)) (domains (drop (j + 1) x) vs no_more)) →
-      Pushed w0 w3 b (length x - j) ((vs : Values) → Holds v (Value.set vs) → Pending w3 b (length x - j) (domains (drop j x) vs no_more))
+  pub pushed_more : Domained w2 w3 x (b + 1) (j + 1) v → Domained w0 w3 x b j v
   unfolding domains
   pushed_more p =
       let k = p.kept in

@@ -131,14 +131,18 @@ module _ (doc state table : List ℕ) (s : Stated doc state table) (i : ℕ) (a 
   entry_some = some
 
 -- ---- the identifiers among the words x from j on: their blocks
-pub put_none : (state w x : List ℕ) (b j : ℕ) (s : State) → length x ≤ j → Extends state w w b (b + (length x - j)) (bind_givens (drop j x) s)
+-- the identifiers of the words x, from j on, in blocks from b on
+abbrev pub Puts : List ℕ → List ℕ → List ℕ → List ℕ → ℕ → ℕ → State → Type 0
+Puts state before after x b j s = Extends state before after b (b + (length x - j)) (bind_givens (drop j x) s)
+
+pub put_none : (state w x : List ℕ) (b j : ℕ) (s : State) → length x ≤ j → Puts state w w x b j s
 unfolding bind_givens
 put_none state w x b j s h scope g =
     let z : b + (length x - j) ≡ b = omega arith in
     rw (z, drop_done x j h) g
 
 pub put_more : (state w0 w1 w2 x : List ℕ) (b j : ℕ) (s : State) → j < length x → Extends state w0 w1 b (b + 1) (bind (get_or x j 0) (valued (s (get_or x j 0)))) →
-    Extends state w1 w2 (b + 1) (b + 1 + (length x - (j + 1))) (bind_givens (drop (j + 1) x) s) → Extends state w0 w2 b (b + (length x - j)) (bind_givens (drop j x) s)
+    Puts state w1 w2 x (b + 1) (j + 1) s → Puts state w0 w2 x b j s
 unfolding bind_givens
 put_more state w0 w1 w2 x b j s h p q scope g =
     let z : b + (length x - j) ≡ b + 1 + (length x - (j + 1)) = omega arith in

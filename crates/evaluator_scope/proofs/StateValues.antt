@@ -1,5 +1,5 @@
 -- The state's value of a name, held by value: the words of its entry, or a given's set of elements.
-use mathlib.Core.Path.{◌≡◌, refl, sym, ap, subst, ◌∙◌}
+use mathlib.Core.Path.{◌≡◌, refl, sym, ap, ◌∙◌}
 use mathlib.Core.Bool.{Bool, true, false, cond}
 use mathlib.Core.Logic.{◌⊎◌, inl, inr, ⊎_elim}
 use mathlib.Core.List.{List, [], ◌∷◌}
@@ -10,12 +10,11 @@ use lib.Signed.{mag}
 use lib.ListN.{length, get_or, drop}
 use borrow.Author.Tests.{lt-ltb, leb-true}
 use mir.Syntax.{w32}
-use mir.Val.{Fits}
 use mir.ValLaws.{to_z-Fits}
 use Rattle.words.proofs.Loops.{and_left, and_right}
 use Rattle.layout.specs.Layout.{part}
 use Rattle.values_integers.specs.Integer.{signed}
-use Rattle.values.specs.Value.{Value, int, element, Values, encode, encodes}
+use Rattle.values.specs.Value.{Value, int, element, encode, encodes}
 use Rattle.values.specs.Held.{keep}
 use Rattle.values.specs.Form.{is_value, shape_of, value_length}
 use Rattle.values.specs.Givens.{elements, elements_from}

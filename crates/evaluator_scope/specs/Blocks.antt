@@ -2,7 +2,6 @@
 -- room for 64 words of its own. Class 1: the value lies in the state; 2: in the work area; 3: a generic abbreviation; 0: not in scope.
 use Rattle.std.specs.Prelude.{◌≡◌, List, true, cond, ℕ, zero, suc, ◌+◌, ◌*◌, ◌≤◌, ◌<◌, eqb, length, get_or, set, take, drop}
 use Rattle.values.specs.Value.{Value, Values, encode}
-use Rattle.values.specs.Value as Value
 use Rattle.values.specs.Lookup.{value_at}
 use Rattle.evaluator_rules.specs.Environment.{Meaning, valued, generic, Environment, empty, bind}
 use Rattle.evaluator_rules.specs.Assignments.{Domains, no_more, domain}

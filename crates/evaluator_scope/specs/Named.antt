@@ -1,7 +1,7 @@
 -- The names of a document with the values that a state gives them, and their blocks.
 use Rattle.std.specs.Prelude.{◌≡◌, List, ◌∷◌, ℕ, replicate}
 use Rattle.reader_rules.specs.Reading.{read_of}
-use Rattle.reader_rules.specs.declared.Reading.TheVariants.{Readable}
+use Rattle.reader_rules.specs.Refusals.{Readable}
 use Rattle.reader_rules.specs.Decode.{tree_of}
 use Rattle.states_rules.specs.Names.{Name, document_names}
 use Rattle.states_rules.specs.States.{State, state_of, value_in}

@@ -4,7 +4,7 @@
 mod classes;
 pub mod named;
 
-ghost use Rattle.std.specs.Prelude.{◌≡◌, false, ℕ, ◌+◌, ◌*◌, ◌-◌, ◌≤◌, ◌<◌, ◌^◌, List, length, take, drop};
+ghost use Rattle.std.specs.Prelude.{◌≡◌, false, ℕ, suc, MatchOption, ◌+◌, ◌*◌, ◌-◌, ◌≤◌, ◌<◌, ◌^◌, List, length, take, drop};
 ghost use Rattle.values.specs.Value.{Value, Values};
 ghost use Rattle.values.specs.Value as Value;
 ghost use Rattle.std.proofs.lemmas.List.Edits.{sets};
@@ -12,11 +12,12 @@ ghost use Rattle.reader_rules.specs.Tree.{Exprs};
 ghost use Rattle.evaluator_rules.specs.Run.{run_work_words};
 ghost use Rattle.evaluator_rules.specs.Environment.{Environment, valued, generic, bind, lookup, refer, has_actuals};
 ghost use Rattle.evaluator_rules.specs.Assignments.{no_more, domains};
-ghost use Rattle.evaluator_operations.specs.Worked.{Holds, Told, Valued, Integral};
+ghost use Rattle.evaluator_operations.specs.Worked.{Holds, Is, Told};
 ghost use Rattle.evaluator_scope.specs.Blocks.{Leaves, Stored, Scoped, Pending, Pushed, last_block, headed, value_of, head_words, block_words, block_count};
 
 use codes::{findings, limits};
-use evaluator_operations::worked::{Operand, Worked, found, go, no_operand, stop};
+use evaluator_operations::worked::refusal;
+use reader_rules::Refusal;
 use values::held::{Held, hold};
 use values::lookup::value_at;
 use values::numbers::number_of;
@@ -46,24 +47,19 @@ pub const IN_WORK: u32 = classes::IN_WORK as u32;
 
 const GENERIC: u32 = classes::GENERIC as u32;
 
-// The last of the first n blocks that is in scope under a name, counted from 1; 0 where there is none.
-fn find(work: &[u32], n: usize, name: usize) -> usize
+// The last of the first n blocks that is in scope under a name.
+fn find(work: &[u32], n: usize, name: usize) -> Option<usize>
     requires { n ≤ block_count }
-    ensures { (result ≡ last_block work.now name n) × (result ≤ n) }
+    ensures { MatchOption result (last_block work.now name n ≡ 0) (λ b. (last_block work.now name n ≡ suc b) × (b < n)) }
 {
-    let mut b = n;
-    while 0 < b {
-        if word(work, BLOCK * (b - 1)) == name {
-            if word(work, BLOCK * (b - 1) + CLASS) == classes::WAITING {
-                b -= 1;
-            } else {
-                return b;
+    for b in (0..n).rev() {
+        if word(work, BLOCK * b) == name {
+            if word(work, BLOCK * b + CLASS) != classes::WAITING {
+                return Some(b);
             }
-        } else {
-            b -= 1;
         }
     }
-    0
+    None
 }
 
 // The words of the value of block b, as a part of the state or of the work area.
@@ -81,7 +77,30 @@ fn value_of<'a>(state: &'a [u32], work: &'a [u32], b: usize) -> &'a [u32]
     )
 }
 
-// A Ref at node k to a name: unknown 51, generic abbreviation 54, actuals on another name 51.
+// The words of the value that a Ref at node k refers to: unknown 51, generic abbreviation 54, actuals on another name 51.
+fn referred<'a>(
+    state: &'a [u32],
+    work: &'a [u32],
+    n: usize,
+    k: usize,
+    name: usize,
+    actuals: bool,
+) -> Result<&'a [u32], Refusal>
+    requires { (n ≤ block_count) × (k ≤ 1024) }
+    ensures { (scope : Environment) → Scoped state.now work.now n scope → (xs : Exprs) → actuals ≡ has_actuals xs → Told (λ r x. Stored r.now x) result (refer k xs (lookup name scope)) }
+{
+    let Some(b) = find(work, n, name) else {
+        return Err(refusal(findings::MISFIT, k));
+    };
+    if word(work, BLOCK * b + CLASS) == classes::GENERIC {
+        return Err(refusal(findings::NOT_RUN, k));
+    }
+    if actuals {
+        return Err(refusal(findings::MISFIT, k));
+    }
+    Ok(value_of(state, work, b))
+}
+
 pub fn refer<'a>(
     state: &'a [u32],
     work: &'a [u32],
@@ -89,21 +108,11 @@ pub fn refer<'a>(
     k: usize,
     name: usize,
     actuals: bool,
-) -> Worked
+) -> Result<Held, Refusal>
     requires { (n ≤ block_count) × (k ≤ 1024) }
-    ensures { (scope : Environment) → Scoped state.now work.now n scope → (xs : Exprs) → actuals ≡ has_actuals xs → Told (Valued result.held) result.judgement (refer k xs (lookup name scope)) }
+    ensures { (scope : Environment) → Scoped state.now work.now n scope → (xs : Exprs) → actuals ≡ has_actuals xs → Told Holds result (refer k xs (lookup name scope)) }
 {
-    let b = find(work, n, name);
-    if b == 0 {
-        return stop(findings::MISFIT, k);
-    }
-    if word(work, BLOCK * (b - 1) + CLASS) == classes::GENERIC {
-        return stop(findings::NOT_RUN, k);
-    }
-    if actuals {
-        return stop(findings::MISFIT, k);
-    }
-    go(hold(value_of(state, work, b - 1)), false)
+    Ok(hold(referred(state, work, n, k, name, actuals)?))
 }
 
 // The same for a Ref without actuals, of which only the integer is asked: its words are read where they lie.
@@ -113,18 +122,11 @@ pub fn refer_integer<'a>(
     n: usize,
     k: usize,
     name: usize,
-) -> Operand
+) -> Result<Option<i32>, Refusal>
     requires { (n ≤ block_count) × (k ≤ 1024) }
-    ensures { (scope : Environment) → Scoped state.now work.now n scope → (xs : Exprs) → false ≡ has_actuals xs → Told (Integral result.integer) result.judgement (refer k xs (lookup name scope)) }
+    ensures { (scope : Environment) → Scoped state.now work.now n scope → (xs : Exprs) → false ≡ has_actuals xs → Told Is result (refer k xs (lookup name scope)) }
 {
-    let b = find(work, n, name);
-    if b == 0 {
-        return no_operand(findings::MISFIT, k);
-    }
-    if word(work, BLOCK * (b - 1) + CLASS) == classes::GENERIC {
-        return no_operand(findings::NOT_RUN, k);
-    }
-    found(number_of(value_of(state, work, b - 1)))
+    Ok(number_of(referred(state, work, n, k, name, false)?))
 }
 
 // Writes the head of block b.
@@ -153,12 +155,10 @@ pub fn put_domains(work: &mut [u32], b: usize, x: &[u32], j: usize, v: Held)
     requires { (b + (length x.now - j) ≤ block_count) × (run_work_words ≤ length work.old) × (length x.now ≤ 256) }
     ensures { Pushed work.old work.new b (length x.now - j) ((vs : Values) → Holds v (Value.set vs) → Pending work.new b (length x.now - j) (domains (drop j x.now) vs no_more)) }
 {
-    if x.len() <= j {
-        return;
+    for i in j..x.len() {
+        put_head(work, b + (i - j), word(x, i), WAITING, 0, 0);
+        put_value(work, b + (i - j), v);
     }
-    put_head(work, b, word(x, j), WAITING, 0, 0);
-    put_value(work, b, v);
-    put_domains(work, b + 1, x, j + 1, v);
 }
 
 // A new name in block n, with a value by value.

@@ -68,9 +68,7 @@ pub fn put_names(
     requires { Stated doc.now state.now table.now × Declares doc.now (names_as true (drop j w.now)) × (b + (length w.now - j) ≤ 64) × (run_work_words ≤ length work.old) × (length w.now ≤ 256) }
     ensures { Extends state.now work.old work.new b (b + (length w.now - j)) (bind_givens (drop j w.now) (said doc.now state.now)) }
 {
-    if w.len() <= j {
-        return;
+    for i in j..w.len() {
+        put_stated(doc, state, table, work, b + (i - j), word(w, i));
     }
-    put_stated(doc, state, table, work, b, word(w, j));
-    put_names(doc, state, table, work, b + 1, w, j + 1);
 }

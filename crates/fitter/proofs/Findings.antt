@@ -1,4 +1,5 @@
 -- What the fit call finds, and leaves, after the check.
+use Rattle.std.specs.Prelude.{Err}
 use mathlib.Core.Path.{◌≡◌, refl, sym, ap, ◌∙◌}
 use mathlib.Core.List.{List, ◌++◌}
 use Prim.Native.Nat.{ℕ, ◌-◌}
@@ -7,13 +8,10 @@ use lib.ListN.{length, replicate}
 use Rattle.reader_rules.specs.Findings.{scan}
 use Rattle.reader_rules.specs.Reading.{read_of}
 use Rattle.reader_rules.specs.Decode.{tree_of}
-use Rattle.reader_rules.specs.declared.Reading.{Reading}
-use Rattle.reader_rules.specs.declared.Reading.TheVariants.{Readable, Refused}
+use Rattle.reader_rules.specs.Refusals.{Finding, Readable, Accepted, Refused}
 use Rattle.checker_rules.specs.Dictionary.{Dictionary, dictionary_words, dictionary_length}
 use Rattle.checker_rules.specs.Check.{Answer, accepted, refused, check_of}
 use Rattle.checker_rules.specs.Areas.{answer_finding, dictionary_after, CheckCall}
-use Rattle.checker_rules.specs.declared.Finding.{Finding}
-use Rattle.checker_rules.specs.declared.Finding.TheVariants.{Accepted, Refused as Rejected}
 use Rattle.checker_rules.proofs.Recorded.{accepted_fits}
 use Rattle.checker_rules.proofs.CheckRight.{accepted_says}
 use Rattle.states_rules.specs.Names.{Name, document_names}
@@ -21,40 +19,39 @@ use Rattle.states_rules.specs.States.{state_of}
 use Rattle.fitter_rules.specs.Fit.{type_number, fit_types, fit_state, fit_checked, fit_of}
 use Rattle.fitter_rules.specs.Areas.{FitCall}
 use Rattle.fitter_types.specs.Held.{Held}
-use Rattle.fitter.specs.Findings.{said_by}
 
-not_rejected : {A : Type 0} (n p : ℕ) → Accepted ≡ Rejected n p → A
+not_rejected : {A : Type 0} (n p : ℕ) → Accepted ≡ Refused n p → A
 not_rejected n p e = let z : ◌≡◌ {A = ℕ} 0 1 = cc in absurd (omega arith)
 
 -- ---- 41, then 42
-said_types : (r : Reading) (E : Dictionary) → said_by r ≡ answer_finding (fit_types r E)
-unfolding said_by answer_finding fit_types
+said_types : (r : Finding) (E : Dictionary) → r ≡ answer_finding (fit_types r E)
+unfolding answer_finding fit_types
 said_types Readable E = refl
-said_types (Refused n p) E = refl
+said_types (Err err) E = refl
 
 module _ (ns : List Name) (state : List ℕ) (E : Dictionary) where
-  pub readable_finding : state_of ns state ≡ Readable → (r : Reading) → r ≡ scan (type_number E ns state) 1 (length ns) → (f : Finding) → f ≡ said_by r
-      → f ≡ answer_finding (fit_state (state_of ns state) E ns state)
+  pub readable_finding : state_of ns state ≡ Readable → (r : Finding) → r ≡ scan (type_number E ns state) 1 (length ns)
+      → r ≡ answer_finding (fit_state (state_of ns state) E ns state)
   unfolding fit_state
-  readable_finding s r e f q = rw s (q ∙ said_types r E ∙ ap (λ (x : Reading). answer_finding (fit_types x E)) e)
+  readable_finding s r e = rw s (said_types r E ∙ ap (λ (x : Finding). answer_finding (fit_types x E)) e)
 
-  pub refused_finding : (n p : ℕ) → state_of ns state ≡ Refused n p → Rejected n p ≡ answer_finding (fit_state (state_of ns state) E ns state)
+  pub refused_finding : (n p : ℕ) → state_of ns state ≡ Refused n p → Refused n p ≡ answer_finding (fit_state (state_of ns state) E ns state)
   unfolding fit_state answer_finding
   refused_finding n p s = rw s refl
 
   -- an accepting answer has the dictionary of the check
-  types_keep : (r : Reading) → Accepted ≡ answer_finding (fit_types r E) → fit_types r E ≡ accepted E
+  types_keep : (r : Finding) → Accepted ≡ answer_finding (fit_types r E) → fit_types r E ≡ accepted E
   unfolding fit_types answer_finding
   types_keep Readable e = refl
-  types_keep (Refused n p) e = not_rejected n p e
+  types_keep (Err err) e = not_rejected err.number err.place e
 
-  state_keeps : (r : Reading) → Accepted ≡ answer_finding (fit_state r E ns state) → fit_state r E ns state ≡ accepted E
+  state_keeps : (r : Finding) → Accepted ≡ answer_finding (fit_state r E ns state) → fit_state r E ns state ≡ accepted E
   unfolding fit_state answer_finding
   state_keeps Readable e = types_keep (scan (type_number E ns state) 1 (length ns)) e
-  state_keeps (Refused n p) e = not_rejected n p e
+  state_keeps (Err err) e = not_rejected err.number err.place e
 
   -- a refusing one leaves zeros
-  refused_after : (a : Answer) (n p d : ℕ) → Rejected n p ≡ answer_finding a → dictionary_after a d ≡ replicate d 0
+  refused_after : (a : Answer) (n p d : ℕ) → Refused n p ≡ answer_finding a → dictionary_after a d ≡ replicate d 0
   unfolding answer_finding dictionary_after
   refused_after (accepted D) n p d e = not_rejected n p (sym e)
   refused_after (refused f m) n p d e = refl
@@ -85,11 +82,11 @@ after_check : (doc state : List ℕ) (d w : ℕ) (E : Dictionary) → check_of d
 unfolding fit_of fit_checked
 after_check doc state d w E q = rw q refl
 
-unchecked : (doc state : List ℕ) (d w n p : ℕ) → Rejected n p ≡ answer_finding (check_of doc d w) → fit_of doc state d w ≡ check_of doc d w
+unchecked : (doc state : List ℕ) (d w n p : ℕ) → Refused n p ≡ answer_finding (check_of doc d w) → fit_of doc state d w ≡ check_of doc d w
 unfolding fit_of fit_checked answer_finding
 unchecked doc state d w n p e = go (check_of doc d w) e
   where
-    go : (a : Answer) → Rejected n p ≡ answer_finding a → fit_checked a (document_names (tree_of doc)) state ≡ a
+    go : (a : Answer) → Refused n p ≡ answer_finding a → fit_checked a (document_names (tree_of doc)) state ≡ a
     go (accepted E) e = not_rejected n p (sym e)
     go (refused f m) e = refl
 
@@ -106,8 +103,8 @@ fit_accepted {doc} {state} {d = d} {w} c e s =
     let ns = document_names (tree_of doc) in
     as_checked (after_check doc state d w E a.checked ∙ state_keeps ns state E (state_of ns state) (s E a.held) ∙ sym a.checked) c
 
-pub fit_refused : {doc state dict work after : List ℕ} {d w n p : ℕ} → CheckCall doc d w Accepted dict work → length dict ≡ d → Says doc state dict (Rejected n p) → after ≡ replicate d 0
-    → FitCall doc state d w (Rejected n p) after work
+pub fit_refused : {doc state dict work after : List ℕ} {d w n p : ℕ} → CheckCall doc d w Accepted dict work → length dict ≡ d → Says doc state dict (Refused n p) → after ≡ replicate d 0
+    → FitCall doc state d w (Refused n p) after work
 fit_refused {doc} {state} {d = d} {w} {n} {p} c e s z =
     let a = accepting c e in
     let E = a.dictionary in
@@ -116,5 +113,5 @@ fit_refused {doc} {state} {d = d} {w} {n} {p} c e s z =
     let f = s E a.held in
     record { finding = rw q f; recorded = rw q (z ∙ sym (refused_after ns state E (fit_state (state_of ns state) E ns state) n p d f)); cleared = c.cleared }
 
-pub fit_unchecked : {doc state dict work : List ℕ} {d w n p : ℕ} → CheckCall doc d w (Rejected n p) dict work → FitCall doc state d w (Rejected n p) dict work
+pub fit_unchecked : {doc state dict work : List ℕ} {d w n p : ℕ} → CheckCall doc d w (Refused n p) dict work → FitCall doc state d w (Refused n p) dict work
 fit_unchecked {doc} {state} {d = d} {w} {n} {p} c = as_checked (unchecked doc state d w n p c.finding) c

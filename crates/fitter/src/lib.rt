@@ -4,7 +4,7 @@
 ghost use Rattle.std.specs.Prelude.{◌≡◌, length};
 ghost use Rattle.reader_rules.specs.Reading.{read_of};
 ghost use Rattle.reader_rules.specs.Decode.{tree_of};
-ghost use Rattle.reader_rules.specs.declared.Reading.TheVariants.{Readable};
+ghost use Rattle.reader_rules.specs.Refusals.{Readable};
 ghost use Rattle.checker_rules.specs.Dictionary.{Dictionary};
 ghost use Rattle.checker_rules.specs.Areas.{answer_finding};
 ghost use Rattle.states_rules.specs.Names.{document_names};
@@ -12,63 +12,28 @@ ghost use Rattle.states_rules.specs.States.{state_of};
 ghost use Rattle.fitter_rules.specs.Fit.{fit_state};
 ghost use Rattle.fitter_rules.specs.Areas.{FitCall};
 ghost use Rattle.fitter_types.specs.Held.{Held};
-ghost use Rattle.fitter.specs.Findings.{said_by};
 
-use checker_rules::Finding;
 use fitter_types::first_mistyped;
-use reader_rules::Reading;
+use reader_rules::Refusal;
 use words::clear;
 
-// The finding of an accepted document where this was found of its state.
-fn finding_of(r: Reading) -> Finding
-    ensures { result ≡ said_by r }
-{
-    match r {
-        Reading::Readable => Finding::Accepted,
-        Reading::Refused { number, place } => Finding::Refused {
-            number: number,
-            place: place,
-        },
-    }
-}
-
 // The finding of a state for a document that the check accepted: 41, then 42.
-fn fit_state(doc: &[u32], state: &[u32], dict: &[u32]) -> Finding
+fn fit_state(doc: &[u32], state: &[u32], dict: &[u32]) -> Result<(), Refusal>
     requires { read_of doc.now ≡ Readable }
     ensures { (E : Dictionary) → Held doc.now dict.now E → result ≡ answer_finding (fit_state (state_of (document_names (tree_of doc.now)) state.now) E (document_names (tree_of doc.now)) state.now) }
 {
-    let formed = states::first_ill_formed(doc, state);
-    match formed {
-        Reading::Readable => finding_of(first_mistyped(doc, state, dict)),
-        Reading::Refused { number, place } => Finding::Refused {
-            number: number,
-            place: place,
-        },
-    }
+    states::first_ill_formed(doc, state)?;
+    first_mistyped(doc, state, dict)
 }
 
 // The check of a document, then a state against its dictionary. On acceptance the dictionary stays; after a refusal both areas are zeros.
-pub fn fit(doc: &[u32], state: &[u32], dict: &mut [u32], work: &mut [u32]) -> Finding
+pub fn fit(doc: &[u32], state: &[u32], dict: &mut [u32], work: &mut [u32]) -> Result<(), Refusal>
     ensures { FitCall doc.now state.now (length dict.old) (length work.old) result dict.new work.new }
 {
-    let checked = checker::check(doc, dict, work);
-    match checked {
-        Finding::Accepted => {
-            let fitted = fit_state(doc, state, dict);
-            match fitted {
-                Finding::Accepted => Finding::Accepted,
-                Finding::Refused { number, place } => {
-                    clear(dict);
-                    Finding::Refused {
-                        number: number,
-                        place: place,
-                    }
-                }
-            }
-        }
-        Finding::Refused { number, place } => Finding::Refused {
-            number: number,
-            place: place,
-        },
+    checker::check(doc, dict, work)?;
+    let fitted = fit_state(doc, state, dict);
+    if fitted.is_err() {
+        clear(dict);
     }
+    fitted
 }

@@ -1,4 +1,5 @@
 -- The fit call finds the check's refusal, then 41, then 42 at the first entry whose value is not of its recorded type; otherwise it accepts.
+use Rattle.std.specs.Prelude.{Err}
 use mathlib.Core.Path.{◌≡◌, refl, sym, ap, subst, ◌∙◌}
 use mathlib.Core.Bool.{Bool, true, false, cond, false≢true}
 use mathlib.Core.Logic.{◌↔◌}
@@ -9,8 +10,7 @@ use lib.ListN.{length}
 use Rattle.layout.specs.Layout.{part}
 use Rattle.reader_rules.specs.Findings.{scan}
 use Rattle.reader_rules.specs.Decode.{tree_of}
-use Rattle.reader_rules.specs.declared.Reading.{Reading}
-use Rattle.reader_rules.specs.declared.Reading.TheVariants.{Readable, Refused}
+use Rattle.reader_rules.specs.Refusals.{Finding, Readable, Refused}
 use Rattle.reader_rules.proofs.Scan.{scan_none}
 use Rattle.values.specs.Typed.{is_of}
 use Rattle.types_rules.specs.Types.{Ty, size}
@@ -52,22 +52,22 @@ number_right E ns state k p g b e w l =
     rw (b, e) (λ x. h.0 (z.0 x), λ x. z.1 (h.1 x))
 
 module _ (doc state : List ℕ) (d w : ℕ) (ns : List Name) where
-  types_finds : (E : Dictionary) → check_of doc d w ≡ accepted E → WellFormedState ns state → (r : Reading) → scan (type_number E ns state) 1 (length ns) ≡ r → FitFinds doc state d w ns (fit_types r E)
+  types_finds : (E : Dictionary) → check_of doc d w ≡ accepted E → WellFormedState ns state → (r : Finding) → scan (type_number E ns state) 1 (length ns) ≡ r → FitFinds doc state d w ns (fit_types r E)
   unfolding fit_types
   types_finds E c f Readable e = fits c f (λ k p q. scan_none (type_number E ns state) 1 (length ns) e k p (omega arith))
-  types_finds E c f (Refused n p) e =
-      let h = scan_found (type_number E ns state) 1 (length ns) n p e in
-      let v = type_number_lem E ns state p n h.number h.not_zero in
+  types_finds E c f (Err err) e =
+      let h = scan_found (type_number E ns state) 1 (length ns) err.number err.place e in
+      let v = type_number_lem E ns state err.place err.number h.number h.not_zero in
       let l = h.from in
       let b = h.before in
-      subst (λ (x : ℕ). FitFinds doc state d w ns (refused x p)) (sym v) (mistyped {k = p} c f l (omega arith) (h.number ∙ v) (λ j x y. h.none j x y))
+      subst (λ (x : ℕ). FitFinds doc state d w ns (refused x err.place)) (sym v) (mistyped {k = err.place} c f l (omega arith) (h.number ∙ v) (λ j x y. h.none j x y))
 
-  state_finds : (E : Dictionary) → check_of doc d w ≡ accepted E → (r : Reading) → state_of ns state ≡ r → FitFinds doc state d w ns (fit_state r E ns state)
+  state_finds : (E : Dictionary) → check_of doc d w ≡ accepted E → (r : Finding) → state_of ns state ≡ r → FitFinds doc state d w ns (fit_state r E ns state)
   unfolding fit_state
   state_finds E c Readable e = types_finds E c ((state_well ns state).0 e) _ refl
-  state_finds E c (Refused n p) e =
-      let h = (state_ill ns state n p).0 e in
-      subst (λ (x : ℕ). FitFinds doc state d w ns (refused x p)) (sym h.0) (ill_formed c h.1)
+  state_finds E c (Err err) e =
+      let h = (state_ill ns state err.number err.place).0 e in
+      subst (λ (x : ℕ). FitFinds doc state d w ns (refused x err.place)) (sym h.0) (ill_formed c h.1)
 
   check_finds : (a : Answer) → check_of doc d w ≡ a → FitFinds doc state d w ns (fit_checked a ns state)
   unfolding fit_checked

@@ -1,7 +1,7 @@
 -- What the fit call leaves: its finding, and what each area holds; after a refusal both areas are zero.
 use Rattle.std.specs.Prelude.{◌≡◌, List, ℕ}
 use Rattle.checker_rules.specs.Areas.{answer_finding, dictionary_after, work_after}
-use Rattle.checker_rules.specs.declared.Finding.{Finding}
+use Rattle.reader_rules.specs.Refusals.{Finding}
 use Rattle.fitter_rules.specs.Fit.{fit_of}
 
 pub record FitCall (doc state : List ℕ) (d w : ℕ) (result : Finding) (dictionary work : List ℕ) : Type 0 where

@@ -1,10 +1,9 @@
 -- The fit call (document 01: "checks a document, then a state against its dictionary (41, then 42), and on acceptance leaves that dictionary").
-use Rattle.std.specs.Prelude.{cond, List, [], ℕ, length}
+use Rattle.std.specs.Prelude.{cond, List, [], ℕ, length, Err}
 use Rattle.layout.specs.Layout.{part}
 use Rattle.reader_rules.specs.Findings.{scan}
 use Rattle.reader_rules.specs.Decode.{tree_of}
-use Rattle.reader_rules.specs.declared.Reading.{Reading}
-use Rattle.reader_rules.specs.declared.Reading.TheVariants.{Readable, Refused}
+use Rattle.reader_rules.specs.Refusals.{Finding, Readable, Refused}
 use Rattle.types_rules.specs.Words.{words}
 use Rattle.values.specs.Typed.{is_of}
 use Rattle.checker_rules.specs.Dictionary.{Dictionary, Named, unnamed, of_local, of_global, name_in}
@@ -26,13 +25,13 @@ type_number E ns state k =
     (cond (is_of (value_of (sizes_in ns state) (part state k)) (recorded_words (name_in (name_at ns k).identifier E))) 0 42)
 
 -- 41, then 42, each at its first entry; then what the check accepted
-unfoldable pub fit_types : Reading → Dictionary → Answer
+unfoldable pub fit_types : Finding → Dictionary → Answer
 fit_types Readable E = accepted E
-fit_types (Refused number place) E = refused number place
+fit_types (Err err) E = refused err.number err.place
 
-unfoldable pub fit_state : Reading → Dictionary → List Name → List ℕ → Answer
+unfoldable pub fit_state : Finding → Dictionary → List Name → List ℕ → Answer
 fit_state Readable E ns state = fit_types (scan (type_number E ns state) 1 (length ns)) E
-fit_state (Refused number place) E ns state = refused number place
+fit_state (Err err) E ns state = refused err.number err.place
 
 unfoldable pub fit_checked : Answer → List Name → List ℕ → Answer
 fit_checked (accepted E) ns state = fit_state (state_of ns state) E ns state

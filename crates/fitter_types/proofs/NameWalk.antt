@@ -4,6 +4,7 @@ use mathlib.Core.Bool.{Bool, true, false, cond}
 use mathlib.Core.Logic.{⊎_elim}
 use mathlib.Core.List.{List, [], ◌∷◌, ◌++◌}
 use Prim.Native.Nat.{ℕ, zero, suc, ◌+◌, ◌-◌, ◌≤◌, ◌<◌}
+use Rattle.std.specs.Prelude.{Some, None}
 use native.Mathlib.Omega.{arith}
 use native.Mathlib.Nat.{eq-or-lt_of_le}
 use lib.Dec.{eqb}
@@ -15,7 +16,7 @@ use Rattle.reader_rules.specs.Kinds.{texts, lines, paragraphs}
 use Rattle.reader_rules.specs.Nodes.{kind_at, operand_at}
 use Rattle.reader_rules.specs.Promise.{At}
 use Rattle.reader_rules.specs.Reading.{read_of}
-use Rattle.reader_rules.specs.declared.Reading.TheVariants.{Readable}
+use Rattle.reader_rules.specs.Refusals.{Readable}
 use Rattle.reader_rules.specs.Tree.{Lines, end, declaration, inclusion}
 use Rattle.reader_rules.specs.Decode.{line_at, lines_from, paragraph_at, paragraphs_from}
 use Rattle.reader_rules.proofs.TreeText.{line_range, line_declaration, line_inclusion}
@@ -24,7 +25,6 @@ use Rattle.states_rules.specs.Names.{nobody, Name, names_as, line_names, paragra
 use Rattle.states.specs.Table.{line_count}
 use Rattle.states.proofs.NameLaws.{as_length, text_line, given_names, axiom_names, other_names, document_go, document_end}
 use Rattle.fitter_types.specs.Roles.{identifier_at, role_of}
-use Rattle.fitter_types.specs.declared.names.Role.TheVariants.{Given, Declared}
 
 -- ---- in a list after another
 first_list : (xs ys : List Name) (j : ℕ) → j < length xs → get_or (xs ++ ys) j nobody ≡ get_or xs j nobody
@@ -118,17 +118,17 @@ text_over doc t i e (suc j) h = rw (lines_end_lem doc t e i h) refl
 -- ---- a paragraph's names
 module _ (doc : List ℕ) (k : ℕ) (h : At doc paragraphs k) (j : ℕ) where
   pub axiom_role : kind_at doc k ≡ 3 → (a : ℕ) → a ≡ operand_at doc k 1 → (i : ℕ) → i ≡ identifier_at (line_names (lines_from doc a 2 (length (part doc a) - 2))) j
-      → Declared i ≡ role_of (get_or (paragraph_names (paragraph_at doc k)) j nobody)
+      → Some i ≡ role_of (get_or (paragraph_names (paragraph_at doc k)) j nobody)
   unfolding role_of
   axiom_role q a x i e =
       let ls = lines_from doc a 2 (length (part doc a) - 2) in
-      rw ((axiom_names doc k h q a x).1, lines_plain ls j) (ap Declared e)
+      rw ((axiom_names doc k h q a x).1, lines_plain ls j) (ap Some e)
 
-  pub given_role : (kind_at doc k ≡ 3 → ⊥) → j < length (paragraph_names (paragraph_at doc k)) → Given ≡ role_of (get_or (paragraph_names (paragraph_at doc k)) j nobody)
+  pub given_role : (kind_at doc k ≡ 3 → ⊥) → j < length (paragraph_names (paragraph_at doc k)) → None ≡ role_of (get_or (paragraph_names (paragraph_at doc k)) j nobody)
   unfolding role_of
   given_role z l = go (eqb (kind_at doc k) 2) refl
     where
-      go : (b : Bool) → eqb (kind_at doc k) 2 ≡ b → Given ≡ cond (get_or (paragraph_names (paragraph_at doc k)) j nobody).is_given Given (Declared (get_or (paragraph_names (paragraph_at doc k)) j nobody).identifier)
+      go : (b : Bool) → eqb (kind_at doc k) 2 ≡ b → None ≡ cond (get_or (paragraph_names (paragraph_at doc k)) j nobody).is_given None (Some (get_or (paragraph_names (paragraph_at doc k)) j nobody).identifier)
       go true e =
           let n = given_names doc k h (eqb-true (kind_at doc k) 2 e) in
           let g : (get_or (paragraph_names (paragraph_at doc k)) j nobody).is_given ≡ true = rw n (as_given (drop 1 (part doc k)) j (omega (arith, l, ap length n))) in

@@ -3,6 +3,7 @@ use mathlib.Core.Path.{◌≡◌, refl, sym, ap, subst, ◌∙◌}
 use mathlib.Core.Bool.{Bool, true, false, cond}
 use mathlib.Core.List.{List, ◌++◌}
 use Prim.Native.Nat.{ℕ, ◌-◌, ◌≤◌}
+use Rattle.std.specs.Prelude.{Some, None}
 use native.Mathlib.Omega.{arith}
 use lib.Dec.{leb}
 use lib.ListN.{length, drop}
@@ -10,7 +11,7 @@ use borrow.Author.Tests.{eqb-true, leb-true}
 use Rattle.words.proofs.Loops.{and_left, and_right}
 use Rattle.layout.specs.Layout.{count, laid_out, part}
 use Rattle.reader_rules.specs.Decode.{tree_of}
-use Rattle.reader_rules.specs.declared.Reading.TheVariants.{Readable}
+use Rattle.reader_rules.specs.Refusals.{Readable}
 use Rattle.types_rules.specs.Types.{Ty, size}
 use Rattle.types_rules.specs.Formed.{WellFormed as Formed}
 use Rattle.types_rules.specs.Words.{words}
@@ -18,7 +19,7 @@ use Rattle.values.specs.Value.{Value, encode}
 use Rattle.values.specs.Form.{is_value}
 use Rattle.values.specs.Typed.{is_of, has_type}
 use Rattle.values_forms.proofs.TypedValues.{typed_value}
-use Rattle.checker_rules.specs.Dictionary.{Dictionary, Named, unnamed, of_global, name_in}
+use Rattle.checker_rules.specs.Dictionary.{Dictionary, Named, of_global, name_in}
 use Rattle.checker_rules.specs.WellFormed.{FormedAnswer}
 use Rattle.checker_rules.proofs.CheckRight.{accepted_says}
 use Rattle.checker_rules.proofs.FormedCheck.{check_formed}
@@ -36,7 +37,6 @@ use Rattle.soundness.proofs.EachName.{every_at}
 use Rattle.soundness.proofs.RecordedNames.{RecordedAs, Recording, document_recorded, formed_in}
 use Rattle.fitter_types.specs.Roles.{role_of}
 use Rattle.fitter_types.specs.Held.{Held, TestedValue}
-use Rattle.fitter_types.specs.declared.names.Role.TheVariants.{Given, Declared}
 
 -- ---- words after a recorded type change nothing
 same_bool : (a b : Bool) → (a ≡ true → b ≡ true) → (b ≡ true → a ≡ true) → a ≡ b
@@ -51,13 +51,7 @@ test_front v g w l r = same_bool (is_of v (words g ++ r)) (is_of v (words g)) (�
 type_same : (p : ℕ) (t g : Ty) (m : Named) → m ≡ of_global p t → m ≡ of_global 0 g → t ≡ g
 type_same p t g m e f = cc
 
-not_named : {A : Type 0} (g : Ty) (m : Named) → m ≡ unnamed → m ≡ of_global 0 g → A
-not_named g m e f = let z : ◌≡◌ {A = ℕ} 0 1 = cc in absurd (omega arith)
-
 module _ (dict : List ℕ) (id k : ℕ) (w : List ℕ) (found : (E : Dictionary) → Holds E dict → NameFound E dict id k) where
-  pub test_absent : k ≡ 0 → TestedValue dict id w false
-  test_absent z = record { told = λ E v g h x l n f s. not_named g (name_in id E) ((found E h).absent z) n }
-
   pub test_told : (k ≡ 0 → ⊥) → (r : Bool) → r ≡ has_type 32 (drop (type_at dict k) dict) w → TestedValue dict id w r
   test_told z r e = record { told = tell }
     where
@@ -77,12 +71,6 @@ test_fine false e = absurd (omega arith)
 value_short : (sizes : ℕ → ℕ) (ws : List ℕ) → is_value sizes ws ≡ true → length ws ≤ 64
 unfolding is_value
 value_short sizes ws t = leb-true (length ws) 64 (and_left (leb (length ws) 64) _ (and_right (leb 1 (length ws)) _ t))
-
-declared_inj : (i j : ℕ) → Declared i ≡ Declared j → i ≡ j
-declared_inj i j e = cc
-
-not_declared : {A : Type 0} (i : ℕ) → Given ≡ Declared i → A
-not_declared i e = let z : ◌≡◌ {A = ℕ} 0 1 = cc in absurd (omega arith)
 
 -- the entries of a well-formed state are counted
 module _ (ns : List Name) (state : List ℕ) (s : state_of ns state ≡ Readable) where
@@ -104,26 +92,27 @@ module _ (doc state dict : List ℕ) (s : state_of (document_names (tree_of doc)
   recording : Recording E (name_at ns k)
   recording = every_at ns (document_recorded (tree_of doc) H.room E (accepted_says doc H.room H.work E H.checked).passes) (k - 1) (omega arith)
 
-  pub given_number_lem : Given ≡ role_of (name_at ns k) → 0 ≡ type_number E ns state k
+  pub given_number_lem : None ≡ role_of (name_at ns k) → 0 ≡ type_number E ns state k
   unfolding role_of type_number
   given_number_lem e = go (name_at ns k).is_given refl
     where
       go : (b : Bool) → (name_at ns k).is_given ≡ b → 0 ≡ type_number E ns state k
       go true g = rw g
-      go false g = not_declared (name_at ns k).identifier (rw g at e)
+      go false g = let h = rw g at e in cc
 
-  pub declared_number : Words state → (i : ℕ) → Declared i ≡ role_of (name_at ns k) → (w : List ℕ) → w ≡ part state k → (r : Bool) → TestedValue dict i w r → cond r 0 42 ≡ type_number E ns state k
+  pub declared_number : Words state → (i : ℕ) → Some i ≡ role_of (name_at ns k) → (w : List ℕ) → w ≡ part state k → (r : Bool) → TestedValue dict i w r → cond r 0 42 ≡ type_number E ns state k
   unfolding role_of type_number recorded_words RecordedAs
   declared_number ws i e w u r t = go (name_at ns k).is_given refl
     where
       go : (b : Bool) → (name_at ns k).is_given ≡ b → cond r 0 42 ≡ type_number E ns state k
-      go true g = not_declared i (sym (rw g at e))
+      go true g = let h = rw g at e in cc
       go false g =
           let R : RecordedAs false E (name_at ns k).identifier = rw g at recording in
           let h = R.0 in
           let v = value_of (sizes_in ns state) (part state k) in
           let x = entry_value_lem ns state s k l m g in
-          let j : i ≡ (name_at ns k).identifier = declared_inj i (name_at ns k).identifier (rw g at e) in
+          let o = rw g at e in
+          let j : i ≡ (name_at ns k).identifier = cc in
           let f = formed_in E (name_at ns k).identifier 0 h (subst FormedAnswer H.checked (check_formed doc H.room H.work)) R.1 in
           let y = t.told E v h H.holds (value_read (sizes_in ns state) (part state k) (words_part state k ws) x ∙ sym u) (omega (arith, ap length u, value_short (sizes_in ns state) (part state k) x)) (ap (λ (z : ℕ). name_in z E) j ∙ R.1) f R.2 in
           rw (g, R.1) (ap (λ (b : Bool). cond b 0 42) y)

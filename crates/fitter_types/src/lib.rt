@@ -1,11 +1,11 @@
 // Finding 42: the values of a state against the types that the dictionary records.
 #![tactic(auto)]
 
-use crate::names::{Role, name_of};
+use crate::names::name_of;
 use checker_dictionary::lookup::{entry_of_name, type_place};
 use codes::findings;
 use layout::part;
-use reader_rules::Reading;
+use reader_rules::Refusal;
 use values_forms::typed::has_type;
 use words::{from, word};
 
@@ -15,7 +15,7 @@ ghost use Rattle.std.specs.Prelude.{◌≡◌, ◌≤◌, length};
 ghost use Rattle.reader_rules.specs.Findings.{scan};
 ghost use Rattle.reader_rules.specs.Reading.{read_of};
 ghost use Rattle.reader_rules.specs.Decode.{tree_of};
-ghost use Rattle.reader_rules.specs.declared.Reading.TheVariants.{Readable};
+ghost use Rattle.reader_rules.specs.Refusals.{Readable};
 ghost use Rattle.checker_rules.specs.Dictionary.{Dictionary};
 ghost use Rattle.states_rules.specs.Names.{document_names};
 ghost use Rattle.states_rules.specs.States.{state_of};
@@ -40,8 +40,8 @@ fn type_number(doc: &[u32], state: &[u32], dict: &[u32], k: usize) -> u32
 {
     let name = name_of(doc, k);
     match name {
-        Role::Given => 0,
-        Role::Declared { identifier } => {
+        None => 0,
+        Some(identifier) => {
             if is_typed(dict, identifier, part(state, k)) {
                 return 0;
             }
@@ -51,21 +51,19 @@ fn type_number(doc: &[u32], state: &[u32], dict: &[u32], k: usize) -> u32
 }
 
 // The first entry whose value is not of its recorded type.
-pub fn first_mistyped(doc: &[u32], state: &[u32], dict: &[u32]) -> Reading
+pub fn first_mistyped(doc: &[u32], state: &[u32], dict: &[u32]) -> Result<(), Refusal>
     requires { (read_of doc.now ≡ Readable) × (state_of (document_names (tree_of doc.now)) state.now ≡ Readable) }
     ensures { (E : Dictionary) → Held doc.now dict.now E → result ≡ scan (type_number E (document_names (tree_of doc.now)) state.now) 1 (length (document_names (tree_of doc.now))) }
 {
     let n = word(state, 0);
-    let mut k = 1;
-    while k < n + 1 {
+    for k in 1..n + 1 {
         let number = type_number(doc, state, dict, k);
         if number != 0 {
-            return Reading::Refused {
+            return Err(Refusal {
                 number: number,
                 place: k as u32,
-            };
+            });
         }
-        k += 1;
     }
-    Reading::Readable
+    Ok(())
 }

@@ -1,33 +1,21 @@
-// The words of a program's input: four bytes a word, low byte first.
+// A program's input: the bytes of a reader, and their words, four bytes a word, low byte first.
 #![tactic(auto)]
 
-ghost use Rattle.std.specs.Prelude.{◌≡◌, ◌++◌, ◌+◌, ◌*◌, ◌≤◌, ◌<◌, ◌^◌, length, get_or, drop};
+ghost use Rattle.std.specs.Prelude.{◌≡◌, ◌++◌, ◌+◌, ◌*◌, ◌≤◌, length, drop, IfOk};
 ghost use Rattle.input.specs.Input.{word_at, first_words, are_words, words_after};
 
 use codes::WORD_BYTES;
+use std::io;
+use std::io::Read;
 use words::store;
-
-// What one counts in each byte after the first.
-const SECOND: u32 = 256;
-
-const THIRD: u32 = 256 * SECOND;
-
-const FOURTH: u32 = 256 * THIRD;
-
-// The byte at i, and 0 past the end.
-fn byte(bytes: &[u8], i: usize) -> u32
-    ensures { (result ≡ get_or bytes.now i 0) × (result < 2 ^ 8) }
-{
-    if i < bytes.len() { bytes[i] as u32 } else { 0 }
-}
 
 // Word i.
 fn word_at(bytes: &[u8], i: usize) -> u32
     requires { 4 * i + 4 ≤ length bytes.now }
     ensures { result ≡ word_at bytes.now i }
 {
-    let low = byte(bytes, WORD_BYTES * i) + SECOND * byte(bytes, WORD_BYTES * i + 1);
-    low + THIRD * byte(bytes, WORD_BYTES * i + 2) + FOURTH * byte(bytes, WORD_BYTES * i + 3)
+    let at = WORD_BYTES * i;
+    u32::from_le_bytes([bytes[at], bytes[at + 1], bytes[at + 2], bytes[at + 3]])
 }
 
 // The first n words, at the beginning of an area.
@@ -35,10 +23,8 @@ fn copy_words(bytes: &[u8], n: usize, words: &mut [u32])
     requires { (4 * n ≤ length bytes.now) × (n ≤ length words.old) }
     ensures { words.new ≡ first_words bytes.now n ++ drop n words.old }
 {
-    let mut i = 0;
-    while i < n {
+    for i in 0..n {
         store(words, i, word_at(bytes, i));
-        i += 1;
     }
 }
 
@@ -57,4 +43,20 @@ pub fn take_words(bytes: &[u8], words: &mut [u32]) -> bool
     }
     copy_words(bytes, n, words);
     true
+}
+
+// The bytes that a reader has left, at the beginning of a buffer: how many, all of them or as many as the buffer holds.
+pub fn read_bytes(from: &mut impl Read, bytes: &mut [u8]) -> io::Result<usize>
+    ensures { IfOk result (λ n. n ≤ length bytes.old) }
+{
+    let mut n = 0;
+    // A while: the step is the count that was read.
+    while n < bytes.len() {
+        let got = from.read(&mut bytes[n..])?;
+        if got == 0 {
+            break;
+        }
+        n += got;
+    }
+    Ok(n)
 }

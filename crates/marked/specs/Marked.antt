@@ -3,8 +3,8 @@ use Rattle.std.specs.Prelude.{◌≡◌, List, [], ◌∷◌, ℕ}
 use Rattle.checker_rules.specs.Check.{check_of, check_work_words}
 use Rattle.printer_rules.specs.Print.{printed_of, dictionary_area_words}
 use Rattle.evaluator_rules.specs.Run.{run_of, run_work_words}
-use Rattle.evaluator_rules.specs.declared.Finding.{Finding}
-use Rattle.evaluator_rules.specs.declared.Finding.TheVariants.{Holds, Refused}
+use Rattle.reader_rules.specs.Refusals.{Refused}
+use Rattle.evaluator_rules.specs.Endings.{RunFinding, Holds}
 use Rattle.marked.specs.Coded.{coded, keeping, numbers_to, integers_from}
 use Rattle.marked.specs.Seen.{Checked, accepts, refuses, of_check, Shown, of_run}
 
@@ -14,7 +14,7 @@ pub data Row : Type 0 where
   printed : List ℕ → List ℕ → Row
   ran : List ℕ → Shown → Row
 
-abbrev shows : Finding → ℕ → List ℕ → Shown
+abbrev shows : RunFinding → ℕ → List ℕ → Shown
 shows f n w = record { finding = f; node = n; words = w }
 
 unfoldable pub marked : List Row

@@ -6,9 +6,7 @@ ghost use Rattle.printer.specs.Buffer.{Put};
 pub fn clear(out: &mut [u8])
     ensures { out.new ≡ replicate (length out.old) 0 }
 {
-    for i in 0..out.len() {
-        out[i] = 0;
-    }
+    out.fill(0);
 }
 
 pub fn put_byte(out: &mut [u8], at: usize, byte: u8) -> usize
@@ -32,10 +30,8 @@ pub fn put_text(out: &mut [u8], at: usize, text: &[u8]) -> usize
     ensures { Put text.now out.old at out.new result }
 {
     let mut end = within(out, at);
-    let mut i = 0;
-    while i < text.len() {
-        end = put_byte(out, end, text[i]);
-        i += 1;
+    for byte in text {
+        end = put_byte(out, end, *byte);
     }
     end
 }

@@ -11,22 +11,22 @@ ghost use Rattle.printer_rules.specs.Buffer.{Printed};
 ghost use Rattle.printer.specs.Buffer.{Put};
 
 use buffer::clear;
-use checker_rules::Finding;
 use lines::{put_accepted, put_refused};
+use reader_rules::Refusal;
 
 // The lines of a finding, put into the buffer from `at` on.
-fn put_finding(out: &mut [u8], at: usize, finding: Finding, dict: &[u32]) -> usize
+fn put_finding(out: &mut [u8], at: usize, finding: Result<(), Refusal>, dict: &[u32]) -> usize
     ensures { Put (print_of finding dict.now) out.old at out.new result }
 {
     match finding {
-        Finding::Accepted => put_accepted(out, at, dict),
-        Finding::Refused { number, place } => put_refused(out, at, number, place),
+        Ok(()) => put_accepted(out, at, dict),
+        Err(Refusal { number, place }) => put_refused(out, at, number, place),
     }
 }
 
 // The printed finding at the beginning of the buffer, zeros after it, so that it is a string of C: its length without them. Where the buffer
 // has no room for the lines and one zero, 0, and the buffer is all zero.
-pub fn print_finding(finding: Finding, dict: &[u32], out: &mut [u8]) -> usize
+pub fn print_finding(finding: Result<(), Refusal>, dict: &[u32], out: &mut [u8]) -> usize
     ensures { Printed (print_of finding dict.now) (length out.old) result out.new }
 {
     clear(out);

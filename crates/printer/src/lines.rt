@@ -27,13 +27,11 @@ fn put_entries(out: &mut [u8], at: usize, dict: &[u32]) -> usize
 {
     let n = word(dict, 0);
     let mut end = within(out, at);
-    let mut k = 1;
-    while k <= n {
+    for k in 1..n + 1 {
         if end == out.len() {
             return end;
         }
         end = put_entry(out, end, part(dict, k));
-        k += 1;
     }
     end
 }

@@ -5,9 +5,9 @@ ghost use Rattle.printer_rules.specs.Lines.{spaced, numbers};
 ghost use Rattle.printer.specs.Buffer.{Put};
 
 use crate::buffer::{put_byte, within};
-use words::word;
 
 // The digits of n: those of its tenth, then the last.
+// By hand: no clause says which bytes `write!` puts into a slice.
 pub fn put_number(out: &mut [u8], at: usize, n: usize) -> usize
     ensures { Put (decimal n) out.old at out.new result }
 {
@@ -31,10 +31,8 @@ pub fn put_each_spaced(out: &mut [u8], at: usize, words: &[u32]) -> usize
     ensures { Put (spaced words.now) out.old at out.new result }
 {
     let mut end = within(out, at);
-    let mut i = 0;
-    while i < words.len() {
-        end = put_spaced(out, end, word(words, i));
-        i += 1;
+    for w in words {
+        end = put_spaced(out, end, *w as usize);
     }
     end
 }
@@ -43,9 +41,11 @@ pub fn put_each_spaced(out: &mut [u8], at: usize, words: &[u32]) -> usize
 pub fn put_numbers(out: &mut [u8], at: usize, words: &[u32]) -> usize
     ensures { Put (numbers words.now) out.old at out.new result }
 {
-    if words.len() == 0 {
-        return within(out, at);
+    match words.split_first() {
+        None => within(out, at),
+        Some((first, rest)) => {
+            let end = put_number(out, at, *first as usize);
+            put_each_spaced(out, end, rest)
+        }
     }
-    let end = put_number(out, at, word(words, 0));
-    put_each_spaced(out, end, &words[1..])
 }

@@ -12,7 +12,7 @@ use Rattle.layout.specs.Layout.{count, length_at, offset_at, part}
 use Rattle.checker_rules.specs.Dictionary.{dictionary_words, dictionary_length}
 use Rattle.checker_rules.specs.Check.{Answer, accepted, refused, check_of}
 use Rattle.checker_rules.specs.Areas.{answer_finding, dictionary_after, CheckCall}
-use Rattle.checker_rules.specs.declared.Finding.{Finding}
+use Rattle.reader_rules.specs.Refusals.{Finding}
 use Rattle.printer_rules.specs.Decimal.{decimal}
 use Rattle.printer_rules.specs.Lines.{accepted_bytes, refused_bytes, at_bytes, spaced, numbers, entry_line, dictionary_size, entry_lines, accepted_lines, refused_line}
 use Rattle.printer_rules.specs.Print.{print_of, printed_answer}

@@ -1,7 +1,6 @@
 -- What the bound on the printed length speaks of.
 use Rattle.std.specs.Prelude.{List, [], ◌∷◌, ℕ, ◌+◌, ◌*◌, ◌^◌, ◌<◌}
-use Rattle.checker_rules.specs.declared.Finding.{Finding}
-use Rattle.checker_rules.specs.declared.Finding.TheVariants.{Accepted, Refused}
+use Rattle.reader_rules.specs.Refusals.{Finding, Accepted, Refused}
 
 -- words of 32 bits
 pub data Words : List ℕ → Type 0 where

@@ -1,14 +1,13 @@
 -- The printed finding of a check: bytes, from the finding and the dictionary's words.
-use Rattle.std.specs.Prelude.{List, ℕ}
+use Rattle.std.specs.Prelude.{List, ℕ, Err}
 use Rattle.checker_rules.specs.Check.{Answer, check_of, check_work_words}
 use Rattle.checker_rules.specs.Areas.{answer_finding, dictionary_after}
-use Rattle.checker_rules.specs.declared.Finding.{Finding}
-use Rattle.checker_rules.specs.declared.Finding.TheVariants.{Accepted, Refused}
+use Rattle.reader_rules.specs.Refusals.{Finding, Accepted, Refused}
 use Rattle.printer_rules.specs.Lines.{accepted_lines, refused_line}
 
 unfoldable pub print_of : Finding → List ℕ → List ℕ
 print_of Accepted d = accepted_lines d
-print_of (Refused number place) d = refused_line number place
+print_of (Err err) d = refused_line err.number err.place
 
 -- what is printed for an answer of a check with a dictionary area of n words
 unfoldable pub printed_answer : Answer → ℕ → List ℕ

@@ -10,12 +10,13 @@ use native.Mathlib.Decide.{ℕ_discrete}
 use lib.Seq.{get_or-set_same, get_or-set_other}
 use borrow.Author.Tests.{eq-eqb, ne_eqb, eqb-true, eqb-false, leb-true, ltb-true, le-leb, lt-leb, le-ltb, lt-ltb}
 use Rattle.words.specs.Loops.{total, has}
+use Rattle.words.proofs.Loops.{turn, none_left_lem}
 use Rattle.words.proofs.Lists.{same_test, total_upto}
 use Rattle.layout.specs.Layout.{count, part}
 use Rattle.layout.proofs.Laws.{part_length}
 use Rattle.reader_rules.specs.Nodes.{kind_at, parent, above, ancestors, document_words}
 use Rattle.reader_rules.specs.Repeats.{declared, declared_in, first_operand, is_axiom_decl, globals}
-use Rattle.reader_rules.specs.Limits.{too_deep, is_closing, below_up_to, any_crowded, too_crowded, declared_up_to, too_nested, too_wide, too_many, globals_up_to, limit_number}
+use Rattle.reader_rules.specs.Limits.{too_deep, texts_among, is_closing, below_up_to, any_crowded, too_crowded, declared_up_to, too_nested, too_wide, too_many, globals_up_to, limit_number}
 use Rattle.reader_rules.proofs.Accepted.{Nodes}
 use Rattle.reader_rules.proofs.Parents.{parent_most, parent_rises}
 use Rattle.reader_repeats.specs.Parents.{places, Parents, Linked}
@@ -30,39 +31,44 @@ module _ (doc up : List ℕ) (p : Parents doc up) (k a : ℕ) (h : k < places) (
   pub table_place : a < places
   table_place = omega (arith, table_parent, parent_most doc k, p.few)
 
--- one step up, from k to its parent a
-less : (n : ℕ) → suc n - 1 ≡ n
-less n = omega arith
+-- one step up, from k to its parent a, after i steps of n; and the end
+module _ (doc : List ℕ) (n i k a : ℕ) (h : i < n) (e : a ≡ parent doc k) where
+  pub reaches_off : a ≡ 0 → false ≡ reaches doc (n - i) k
+  unfolding reaches
+  reaches_off z = rw (turn n i h, reaches, ← e, eq-eqb a 0 z)
 
-pub reaches_top : (doc : List ℕ) (n k a : ℕ) → (n ≡ 0 → ⊥) → a ≡ parent doc k → a ≡ 0 → false ≡ reaches doc n k
-unfolding reaches
-reaches_top doc zero k a h e z = absurd (h refl)
-reaches_top doc (suc n) k a h e z = rw (← e, eq-eqb a 0 z)
+  pub reaches_go : (a ≡ 0 → ⊥) → reaches doc (n - (i + 1)) a ≡ reaches doc (n - i) k
+  unfolding reaches
+  reaches_go z = rw (turn n i h, reaches, ← e, ne_eqb a 0 z)
 
-pub reaches_up : (doc : List ℕ) (n k a : ℕ) → (n ≡ 0 → ⊥) → a ≡ parent doc k → (a ≡ 0 → ⊥) → reaches doc (n - 1) a ≡ reaches doc n k
-unfolding reaches
-reaches_up doc zero k a h e z = absurd (h refl)
-reaches_up doc (suc n) k a h e z = rw (less n, ← e, ne_eqb a 0 z)
+  pub above_off : a ≡ 0 → above doc (n - i) k ≡ []
+  unfolding above
+  above_off z = rw (turn n i h, above, ← e, eq-eqb a 0 z)
 
-pub above_top : (doc : List ℕ) (n k a : ℕ) → (n ≡ 0 → ⊥) → a ≡ parent doc k → a ≡ 0 → above doc n k ≡ []
-unfolding above
-above_top doc zero k a h e z = absurd (h refl)
-above_top doc (suc n) k a h e z = rw (← e, eq-eqb a 0 z)
+  pub above_go : (a ≡ 0 → ⊥) → above doc (n - i) k ≡ a ∷ above doc (n - (i + 1)) a
+  unfolding above
+  above_go z = rw (turn n i h, above, ← e, ne_eqb a 0 z)
 
-pub above_up : (doc : List ℕ) (n k a : ℕ) → (n ≡ 0 → ⊥) → a ≡ parent doc k → (a ≡ 0 → ⊥) → above doc n k ≡ a ∷ above doc (n - 1) a
-unfolding above
-above_up doc zero k a h e z = absurd (h refl)
-above_up doc (suc n) k a h e z = rw (less n, ← e, ne_eqb a 0 z)
+  pub texts_off : a ≡ 0 → texts_among doc (above doc (n - i) k) ≡ 0
+  unfolding texts_among
+  texts_off z = rw (above_off z)
 
-pub reaches_none : (doc : List ℕ) (n k : ℕ) → n ≡ 0 → true ≡ reaches doc n k
-unfolding reaches
-reaches_none doc zero k e = refl
-reaches_none doc (suc n) k e = absurd (omega arith)
+  pub texts_go : (a ≡ 0 → ⊥) → texts_among doc (above doc (n - i) k) ≡ cond (eqb (kind_at doc a) 10) 1 0 + texts_among doc (above doc (n - (i + 1)) a)
+  unfolding texts_among
+  texts_go z = rw (above_go z)
 
-pub above_none : (doc : List ℕ) (n k : ℕ) → n ≡ 0 → above doc n k ≡ []
-unfolding above
-above_none doc zero k e = refl
-above_none doc (suc n) k e = absurd (omega arith)
+module _ (doc : List ℕ) (n i k : ℕ) (h : n ≤ i) where
+  pub reaches_end : true ≡ reaches doc (n - i) k
+  unfolding reaches
+  reaches_end = rw (none_left_lem n i h)
+
+  pub above_end : above doc (n - i) k ≡ []
+  unfolding above
+  above_end = rw (none_left_lem n i h)
+
+  pub texts_end : texts_among doc (above doc (n - i) k) ≡ 0
+  unfolding texts_among
+  texts_end = rw (above_end)
 
 -- ---- one node more
 -- below a, where v is what the table says of it
@@ -83,34 +89,30 @@ module _ (doc : List ℕ) (a : ℕ) (u : List ℕ) where
     pub crowd_more : v + 1 ≤ 24 → (u' : List ℕ) → u' ≡ set u a (v + 1) → CrowdedOne doc a u u' false
     crowd_more l u' x = subst (λ z. CrowdedOne doc a u z false) (sym x) (crowd_set l)
 
--- the walk from k up to a, `left` steps from its end: what is left to do tells of the whole
-pub record Crowding (doc : List ℕ) (n k : ℕ) (u : List ℕ) (left a : ℕ) (u' : List ℕ) : Type 0 where
+-- the walk from k up to a, after i steps of n: what is left to do tells of the whole
+pub record Crowding (doc : List ℕ) (n k : ℕ) (u : List ℕ) (i a : ℕ) (u' : List ℕ) : Type 0 where
   pub place : a < places
-  pub size : length u' ≡ length u
-  pub answer : over doc (above doc left a) u' ≡ over doc (above doc n k) u
-  pub table : counted doc (above doc left a) u' ≡ counted doc (above doc n k) u
+  pub answer : over doc (above doc (n - i) a) u' ≡ over doc (above doc n k) u
+  pub table : counted doc (above doc (n - i) a) u' ≡ counted doc (above doc n k) u
 
-pub crowding_start : (doc : List ℕ) (n k : ℕ) (u : List ℕ) → k < places → Crowding doc n k u n k u
-crowding_start doc n k u l = record { place = l; size = refl; answer = refl; table = refl }
+pub crowding_start : (doc : List ℕ) (n k : ℕ) (u : List ℕ) → k < places → Crowding doc n k u 0 k u
+crowding_start doc n k u l = let e : n - 0 ≡ n = omega arith in record { place = l; answer = rw e; table = rw e }
 
-module _ (doc : List ℕ) (n k : ℕ) (u : List ℕ) (left a : ℕ) (u' : List ℕ) (X : Crowding doc n k u left a u') where
-  pub crowding_end : above doc left a ≡ [] → (false ≡ over doc (above doc n k) u) × (false ≡ false → u' ≡ counted doc (above doc n k) u)
+module _ (doc : List ℕ) (n k : ℕ) (u : List ℕ) (i a : ℕ) (u' : List ℕ) (X : Crowding doc n k u i a u') where
+  pub crowding_end : above doc (n - i) a ≡ [] → (false ≡ over doc (above doc n k) u) × (false ≡ false → u' ≡ counted doc (above doc n k) u)
   unfolding over counted
   crowding_end e = (sym (ap (λ l. over doc l u') e) ∙ X.answer, λ q. sym (ap (λ l. counted doc l u') e) ∙ X.table)
 
-  module _ (p : ℕ) (h : left ≡ 0 → ⊥) (e : p ≡ parent doc a) (z : p ≡ 0 → ⊥) (u'' : List ℕ) where
-    up : above doc left a ≡ p ∷ above doc (left - 1) p
-    up = above_up doc left a p h e z
-
+  module _ (p : ℕ) (h : i < n) (e : p ≡ parent doc a) (z : p ≡ 0 → ⊥) (u'' : List ℕ) where
     pub crowding_past : CrowdedOne doc p u' u'' true → (true ≡ over doc (above doc n k) u) × (true ≡ false → u'' ≡ counted doc (above doc n k) u)
-    crowding_past Y = (sym (ap (λ l. over doc l u') up ∙ Y.stops refl (above doc (left - 1) p)) ∙ X.answer, λ q. absurd (false≢true (sym q)))
+    crowding_past Y = (sym (ap (λ l. over doc l u') (above_go doc n i a p h e z) ∙ Y.stops refl (above doc (n - (i + 1)) p)) ∙ X.answer, λ q. absurd (false≢true (sym q)))
 
-    pub crowding_next : p < places → length u'' ≡ length u' → CrowdedOne doc p u' u'' false → Crowding doc n k u (left - 1) p u''
-    crowding_next l b Y =
-        let g = Y.goes refl (above doc (left - 1) p) in
+    pub crowding_next : p < places → CrowdedOne doc p u' u'' false → Crowding doc n k u (i + 1) p u''
+    crowding_next l Y =
+        let g = Y.goes refl (above doc (n - (i + 1)) p) in
+        let up = above_go doc n i a p h e z in
         record {
           place = l;
-          size = b ∙ X.size;
           answer = sym (ap (λ l. over doc l u') up ∙ g.0) ∙ X.answer;
           table = sym (ap (λ l. counted doc l u') up ∙ g.1) ∙ X.table;
         }
@@ -360,3 +362,16 @@ counted_none doc =
       below = record { size = length-replicate {A = ℕ} places 0; at = λ a h c. get_or-replicate {A = ℕ} places a 0 0 h };
       declared = record { size = length-replicate {A = ℕ} places 0; at = λ t h. get_or-replicate {A = ℕ} places t 0 0 h };
     }
+
+-- what the goals of each function want, for an attribute to name
+pub ruleset reaches_turns = (table_parent, table_place, reaches_off, reaches_go, reaches_end)
+
+pub ruleset texts_turns = (table_parent, table_place, texts_off, texts_go, texts_end)
+
+pub ruleset crowd_turns = (crowd_other, crowd_past, crowd_more)
+
+pub ruleset crowding_turns = (table_parent, table_place, above_off, above_end, crowding_start, crowding_end, crowding_past, crowding_next, crowded_as)
+
+pub ruleset widen_turns = (table_parent, table_place, wide_count, declared_on, declared_same)
+
+pub ruleset limit_turns = (deep_eq, ancestors_short, crowded_eq, below_on)

@@ -6,7 +6,7 @@ use codes::limits::{DOCUMENT_WORDS, NODES};
 use layout::Form;
 use reader_nodes::nodes::check_nodes;
 use reader_repeats::first_repeat;
-use reader_rules::Reading;
+use reader_rules::Refusal;
 
 mod limits;
 mod links;
@@ -19,47 +19,35 @@ ghost use Rattle.reader_rules.specs.Repeats.{repeat_number};
 ghost use Rattle.reader_rules.specs.Limits.{limit_number};
 ghost use Rattle.reader_rules.specs.Findings.{and_then};
 ghost use Rattle.reader_rules.specs.Reading.{lowest, read_of};
-ghost use Rattle.reader_rules.specs.declared.Reading.TheVariants.{Readable};
+ghost use Rattle.reader_rules.specs.Refusals.{Readable};
 ghost use Rattle.reader_repeats.specs.Parents.{Linked};
 
 // The places of a table of nodes, which are numbered from 1.
 const PLACES: usize = NODES + 1;
 
 // Findings 16 and 17, by the table of parents.
-fn check_tree(doc: &[u32], up: &[u32]) -> Reading
+fn check_tree(doc: &[u32], up: &[u32]) -> Result<(), Refusal>
     requires { Linked doc.now up.now }
     ensures { result ≡ and_then (lowest doc.now (repeat_number doc.now)) (lowest doc.now (limit_number doc.now)) }
 {
-    let first = first_repeat(doc, up);
-    match first {
-        Reading::Readable => limits::first_past_limit(doc, up),
-        Reading::Refused { number, place } => Reading::Refused {
-            number: number,
-            place: place,
-        },
-    }
+    first_repeat(doc, up)?;
+    limits::first_past_limit(doc, up)
 }
 
 // Findings 15 to 17, of a document whose nodes are in order.
-fn check_uses_and_tree(doc: &[u32]) -> Reading
+fn check_uses_and_tree(doc: &[u32]) -> Result<(), Refusal>
     requires { (laid_out document_form doc.now ≡ true) × (lowest doc.now (node_number doc.now) ≡ Readable) }
     ensures { result ≡ and_then (lowest doc.now (use_number doc.now)) (and_then (lowest doc.now (repeat_number doc.now)) (lowest doc.now (limit_number doc.now))) }
 {
     let mut used = [0u32; PLACES];
     let mut up = [0u32; PLACES];
     links::link_nodes(doc, &mut used, &mut up);
-    let first = links::first_misused(doc, &used);
-    match first {
-        Reading::Readable => check_tree(doc, &up),
-        Reading::Refused { number, place } => Reading::Refused {
-            number: number,
-            place: place,
-        },
-    }
+    links::first_misused(doc, &used)?;
+    check_tree(doc, &up)
 }
 
 // The finding of reading a document.
-pub fn read(doc: &[u32]) -> Reading
+pub fn read(doc: &[u32]) -> Result<(), Refusal>
     ensures { result ≡ read_of doc.now }
 {
     let form = Form {
@@ -68,22 +56,12 @@ pub fn read(doc: &[u32]) -> Reading
         shortest: 1,
         longest: DOCUMENT_WORDS,
     };
-    if layout::laid_out(doc, form) {
-        let first = check_nodes(doc);
-        match first {
-            Reading::Readable => {
-                return check_uses_and_tree(doc);
-            }
-            Reading::Refused { number, place } => {
-                return Reading::Refused {
-                    number: number,
-                    place: place,
-                };
-            }
-        }
+    if !layout::laid_out(doc, form) {
+        return Err(Refusal {
+            number: findings::BROKEN_LAYOUT,
+            place: 0,
+        });
     }
-    Reading::Refused {
-        number: findings::BROKEN_LAYOUT,
-        place: 0,
-    }
+    check_nodes(doc)?;
+    check_uses_and_tree(doc)
 }

@@ -9,63 +9,60 @@ ghost use Rattle.reader.specs.Counts.{reaches, counted, over, CrowdedOne, Declar
 
 use crate::PLACES;
 use codes::{findings, kinds, limits};
-use reader_nodes::kinds::is_between;
 use reader_nodes::nodes::kind_at;
 use reader_repeats::written::{declared_at, globals_at};
-use reader_rules::Reading;
+use reader_rules::Refusal;
 use words::{store, word};
 
 // A Decl, Include, Abbreviation, or node of kind 21 to 23.
+#[tactic(auto, unfolding(reader_rules::specs::Limits::is_closing))]
 fn is_closing(q: usize) -> bool
     ensures { result ≡ is_closing q }
 {
-    if q == kinds::ABBREVIATION {
-        return true;
-    }
-    if is_between(kinds::DECL, q, kinds::INCLUDE) {
-        return true;
-    }
-    is_between(kinds::EQUAL, q, kinds::AT_MOST)
+    matches!(
+        q,
+        kinds::ABBREVIATION | kinds::DECL..=kinds::INCLUDE | kinds::EQUAL..=kinds::AT_MOST
+    )
 }
 
 // There are at least n nodes above k.
+#[tactic(auto, using(crate::proofs::CountLaws::reaches_turns))]
 fn has_above(doc: &[u32], up: &[u32], k: usize, n: usize) -> bool
     requires { Parents doc.now up.now × (k < places) }
     ensures { result ≡ reaches doc.now n k }
 {
     let mut a = k;
-    let mut left = n;
-    while left != 0 {
+    for _ in 0..n {
         a = word(up, a);
         if a == 0 {
             return false;
         }
-        left -= 1;
     }
     true
 }
 
 // The number of Texts among the first n nodes above k.
+#[tactic(auto, using(crate::proofs::CountLaws::texts_turns))]
 fn texts_above(doc: &[u32], up: &[u32], k: usize, n: usize) -> usize
     requires { Parents doc.now up.now × (k < places) }
     ensures { (result ≡ texts_among doc.now (above doc.now n k)) × (result ≤ n) }
 {
-    if n == 0 {
-        return 0;
+    let mut a = k;
+    let mut texts = 0;
+    for _ in 0..n {
+        a = word(up, a);
+        if a == 0 {
+            return texts;
+        }
+        if kind_at(doc, a) == kinds::TEXT {
+            texts += 1;
+        }
     }
-    let a = word(up, k);
-    if a == 0 {
-        return 0;
-    }
-    let rest = texts_above(doc, up, a, n - 1);
-    let q = kind_at(doc, a);
-    if q == kinds::TEXT {
-        return 1 + rest;
-    }
-    rest
+    texts
 }
 
 // One more node below a, where it is a closing node; whether it then has more than 24.
+#[tactic(auto, using(crate::proofs::CountLaws::crowd_turns))]
 fn crowd_one(doc: &[u32], a: usize, below: &mut [u32]) -> bool
     requires { a < places }
     ensures { CrowdedOne doc.now a below.old below.new result }
@@ -82,13 +79,13 @@ fn crowd_one(doc: &[u32], a: usize, below: &mut [u32]) -> bool
 }
 
 // One more node below each closing node among the first n above k; whether one of them then has more than 24.
+#[tactic(auto, using(crate::proofs::CountLaws::crowding_turns))]
 fn crowd(doc: &[u32], up: &[u32], k: usize, n: usize, below: &mut [u32]) -> bool
     requires { Parents doc.now up.now × (k < places) }
     ensures { (result ≡ over doc.now (above doc.now n k) below.old) × (result ≡ false → below.new ≡ counted doc.now (above doc.now n k) below.old) }
 {
     let mut a = k;
-    let mut left = n;
-    while left != 0 {
+    for _ in 0..n {
         a = word(up, a);
         if a == 0 {
             return false;
@@ -96,24 +93,21 @@ fn crowd(doc: &[u32], up: &[u32], k: usize, n: usize, below: &mut [u32]) -> bool
         if crowd_one(doc, a, below) {
             return true;
         }
-        left -= 1;
     }
     false
 }
 
 // Node k is a Text inside 4 others. It is at most 12 deep.
+#[tactic(auto, using(crate::proofs::CountLaws::ancestors_short))]
 fn is_nested(doc: &[u32], up: &[u32], k: usize) -> bool
     requires { Parents doc.now up.now × (k < places) × (reaches doc.now 12 k ≡ false) }
     ensures { result ≡ too_nested doc.now k }
 {
-    let q = kind_at(doc, k);
-    if q == kinds::TEXT {
-        return limits::TEXTS < 1 + texts_above(doc, up, k, limits::DEPTH);
-    }
-    false
+    kind_at(doc, k) == kinds::TEXT && limits::TEXTS < 1 + texts_above(doc, up, k, limits::DEPTH)
 }
 
 // Adds the identifiers of a Decl to those of its Text; whether they are then more than 6.
+#[tactic(auto, using(crate::proofs::CountLaws::widen_turns))]
 fn widen(doc: &[u32], up: &[u32], k: usize, declared: &mut [u32]) -> bool
     requires { Linked doc.now up.now × (1 ≤ k) × (k ≤ count doc.now) × Declared doc.now (k - 1) declared.old }
     ensures { (result ≡ too_wide doc.now k) × (result ≡ false → Declared doc.now k declared.new) }
@@ -133,6 +127,7 @@ fn widen(doc: &[u32], up: &[u32], k: usize, declared: &mut [u32]) -> bool
 }
 
 // Node k is past one of the limits that go by the tree; where it is not, the tables have node k.
+#[tactic(auto, using(crate::proofs::CountLaws::limit_turns))]
 fn limit_at(doc: &[u32], up: &[u32], k: usize, below: &mut [u32], declared: &mut [u32]) -> bool
     requires { Linked doc.now up.now × (1 ≤ k) × (k ≤ count doc.now) × Counted doc.now (k - 1) below.old declared.old }
     ensures { (result ≡ past_tree doc.now k) × (result ≡ false → Counted doc.now k below.new declared.new) }
@@ -150,7 +145,7 @@ fn limit_at(doc: &[u32], up: &[u32], k: usize, below: &mut [u32], declared: &mut
 }
 
 // The first node past a limit.
-pub fn first_past_limit(doc: &[u32], up: &[u32]) -> Reading
+pub fn first_past_limit(doc: &[u32], up: &[u32]) -> Result<(), Refusal>
     requires { Linked doc.now up.now }
     ensures { result ≡ lowest doc.now (limit_number doc.now) }
 {
@@ -158,23 +153,21 @@ pub fn first_past_limit(doc: &[u32], up: &[u32]) -> Reading
     let mut declared = [0u32; PLACES];
     let mut globals = 0;
     let n = word(doc, 0);
-    let mut k = 1;
-    while k < n + 1 {
+    for k in 1..n + 1 {
         if limit_at(doc, up, k, &mut below, &mut declared) {
-            return Reading::Refused {
+            return Err(Refusal {
                 number: findings::PAST_LIMIT,
                 place: k as u32,
-            };
+            });
         }
         let ids = globals_at(doc, up, k);
         globals += ids.len();
         if limits::GLOBALS < globals {
-            return Reading::Refused {
+            return Err(Refusal {
                 number: findings::PAST_LIMIT,
                 place: k as u32,
-            };
+            });
         }
-        k += 1;
     }
-    Reading::Readable
+    Ok(())
 }

@@ -8,11 +8,10 @@ ghost use Rattle.reader.specs.Links.{bump, tally_at, tally_node, tally, link_at,
 
 use codes::{findings, kinds};
 use layout::part;
-use reader_nodes::counts::operand_count;
 use reader_nodes::nodes::kind_at;
 use reader_nodes::operands::sort_at;
 use reader_nodes::sorts;
-use reader_rules::Reading;
+use reader_rules::Refusal;
 use words::{store, word};
 
 // One more use of node v, as far as it matters.
@@ -29,6 +28,7 @@ fn mark(used: &mut [u32], v: usize)
 }
 
 // Operand i of node k, with the words w, is used by k.
+#[tactic(auto, unfolding(crate::specs::Links::tally_at, crate::specs::Links::link_at))]
 fn link_at(w: &[u32], k: usize, i: usize, used: &mut [u32], up: &mut [u32])
     requires { k < 2 ^ 32 }
     ensures { (used.new ≡ tally_at w.now i used.old) × (up.new ≡ link_at w.now k i up.old) }
@@ -41,70 +41,57 @@ fn link_at(w: &[u32], k: usize, i: usize, used: &mut [u32], up: &mut [u32])
     store(up, v, k as u32);
 }
 
+#[tactic(auto, using(words::proofs::Loops::run_turns))]
 fn link_node(w: &[u32], k: usize, used: &mut [u32], up: &mut [u32])
     requires { k < 2 ^ 32 }
     ensures { (used.new ≡ tally_node w.now used.old) × (up.new ≡ link_node w.now k up.old) }
 {
-    let n = operand_count(w);
-    let mut i = 1;
-    while i < n + 1 {
+    for i in 1..w.len() {
         link_at(w, k, i, used, up);
-        i += 1;
     }
 }
 
 // Fills the tables of uses and parents.
+#[tactic(auto, using(words::proofs::Loops::run_turns))]
 pub fn link_nodes(doc: &[u32], used: &mut [u32], up: &mut [u32])
     requires { count doc.now ≤ 1024 }
     ensures { (used.new ≡ tally doc.now used.old) × (up.new ≡ link doc.now up.old) }
 {
-    let n = word(doc, 0);
-    let mut k = 1;
-    while k < n + 1 {
+    for k in 1..word(doc, 0) + 1 {
         link_node(part(doc, k), k, used, up);
-        k += 1;
     }
 }
 
 // 15 at node k, 0 for none.
+#[tactic(auto, using(crate::proofs::LinkLaws::used_one), unfolding(reader_rules::specs::Findings::use_number))]
 fn use_number(doc: &[u32], used: &[u32], k: usize) -> u32
     requires { Used doc.now used.now × (k < places) }
     ensures { result ≡ use_number doc.now k }
 {
-    let n = word(doc, 0);
-    let m = word(used, k);
-    let q = kind_at(doc, k);
-    if k < n {
-        if m == 1 {
-            if q == kinds::DOCUMENT {
-                return findings::WRONG_USE;
-            }
-            return 0;
-        }
-        return findings::WRONG_USE;
-    }
-    if q == kinds::DOCUMENT {
-        return 0;
-    }
-    findings::WRONG_USE
+    let is_document = kind_at(doc, k) == kinds::DOCUMENT;
+    let is_right = if k < word(doc, 0) {
+        word(used, k) == 1 && !is_document
+    } else {
+        is_document
+    };
+    if is_right { 0 } else { findings::WRONG_USE }
 }
 
 // The first node that is used twice or never, or is a Document that is not last, or is last and no Document.
-pub fn first_misused(doc: &[u32], used: &[u32]) -> Reading
+#[tactic(auto, using(reader_rules::proofs::Scan::scan_turns))]
+pub fn first_misused(doc: &[u32], used: &[u32]) -> Result<(), Refusal>
     requires { Used doc.now used.now × (count doc.now ≤ 1024) }
     ensures { result ≡ lowest doc.now (use_number doc.now) }
 {
     let n = word(doc, 0);
-    let mut k = 1;
-    while k < n + 1 {
+    for k in 1..n + 1 {
         let number = use_number(doc, used, k);
         if number != 0 {
-            return Reading::Refused {
+            return Err(Refusal {
                 number: number,
                 place: k as u32,
-            };
+            });
         }
-        k += 1;
     }
-    Reading::Readable
+    Ok(())
 }

@@ -21,6 +21,7 @@ const BESIDE_PARAMETERS: usize = 3;
 // The identifiers of an Include's rename pairs.
 const RENAME_IDENTIFIERS: usize = 2 * limits::RENAMES;
 
+#[tactic(auto, unfolding(crate::specs::Choices::counts_number))]
 fn from_below(fewest: usize, limit: usize) -> usize
     requires { (fewest < 16) × (limit ≤ 256) }
     ensures { result ≡ counts_number (from_below fewest limit) }
@@ -28,6 +29,7 @@ fn from_below(fewest: usize, limit: usize) -> usize
     limit * DIGIT + fewest
 }
 
+#[tactic(auto, unfolding(crate::specs::Choices::paragraph_counts))]
 fn paragraph(q: usize) -> usize
     ensures { result ≡ counts_number (paragraph_counts q) }
 {
@@ -38,6 +40,7 @@ fn paragraph(q: usize) -> usize
     }
 }
 
+#[tactic(auto, unfolding(crate::specs::Choices::predicate_counts))]
 fn predicate(q: usize) -> usize
     ensures { result ≡ counts_number (predicate_counts q) }
 {
@@ -49,6 +52,7 @@ fn predicate(q: usize) -> usize
 }
 
 // Ref, Number and ℤ.
+#[tactic(auto, unfolding(crate::specs::Choices::expression_counts))]
 fn name_or_number(q: usize) -> usize
     requires { (30 ≤ q) × (q ≤ 32) }
     ensures { result ≡ counts_number (expression_counts q) }
@@ -61,6 +65,7 @@ fn name_or_number(q: usize) -> usize
 }
 
 // Set, Tuple and Product.
+#[tactic(auto, unfolding(crate::specs::Choices::expression_counts))]
 fn collection(q: usize) -> usize
     requires { (33 ≤ q) × (q ≤ 35) }
     ensures { result ≡ counts_number (expression_counts q) }
@@ -71,6 +76,7 @@ fn collection(q: usize) -> usize
     from_below(2, 7)
 }
 
+#[tactic(auto, unfolding(crate::specs::Choices::expression_counts))]
 fn expression(q: usize) -> usize
     requires { (30 ≤ q) × (q ≤ 46) }
     ensures { result ≡ counts_number (expression_counts q) }
@@ -85,6 +91,7 @@ fn expression(q: usize) -> usize
 }
 
 // Text, Decl and Include.
+#[tactic(auto, unfolding(crate::specs::Choices::counts_number, crate::specs::Choices::other_counts, crate::specs::Choices::by_kind))]
 fn text(q: usize) -> usize
     requires { (10 ≤ q) × (q ≤ 12) }
     ensures { result ≡ counts_number (other_counts q) }
@@ -97,6 +104,7 @@ fn text(q: usize) -> usize
 }
 
 // The kinds outside paragraphs, predicates and expressions, listed or not.
+#[tactic(auto, unfolding(crate::specs::Choices::counts_number, crate::specs::Choices::other_counts, crate::specs::Choices::by_kind))]
 fn other(q: usize) -> usize
     ensures { result ≡ counts_number (other_counts q) }
 {
@@ -108,6 +116,7 @@ fn other(q: usize) -> usize
     }
 }
 
+#[tactic(auto, unfolding(crate::specs::Choices::chosen_counts, crate::specs::Choices::by_ranges))]
 fn counts_of(q: usize) -> usize
     ensures { result ≡ counts_number (chosen_counts q) }
 {
@@ -119,6 +128,7 @@ fn counts_of(q: usize) -> usize
     }
 }
 
+#[tactic(auto, using(crate::proofs::ChoiceLaws::limit_cell))]
 pub fn is_listed(q: usize) -> bool
     ensures { result ≡ listed q }
 {
@@ -129,42 +139,31 @@ pub fn is_listed(q: usize) -> bool
 pub fn operand_count(w: &[u32]) -> usize
     ensures { result ≡ length w.now - 1 }
 {
-    if 0 < w.len() { w.len() - 1 } else { 0 }
+    w.len().saturating_sub(1)
 }
 
+#[tactic(auto, using(crate::proofs::ChoiceLaws::fewest_cell, crate::proofs::ChoiceLaws::limit_cell))]
 fn count_row(q: usize, n: usize) -> bool
     ensures { result ≡ count_row q n }
 {
     let counts = counts_of(q);
-    if counts % DIGIT <= n {
-        return n < counts / DIGIT;
-    }
-    false
+    counts % DIGIT <= n && n < counts / DIGIT
 }
 
 // The number n of operands is what the counts p (kinds 4 and 5) or a (kind 12) ask for.
+#[tactic(auto, unfolding(reader_rules::specs::Kinds::count_by))]
 fn count_by(q: usize, n: usize, p: usize, a: usize) -> bool
     requires { (p < 2 ^ 32) × (a < 2 ^ 32) }
     ensures { result ≡ count_by q n p a }
 {
-    if q == kinds::INCLUDE {
-        let from = a + BEFORE_ACTUALS;
-        if n < from {
-            return false;
+    match q {
+        kinds::INCLUDE => {
+            let from = a + BEFORE_ACTUALS;
+            from <= n && (n - from) % 2 == 0 && n - from <= RENAME_IDENTIFIERS
         }
-        let pairs = n - from;
-        if pairs % 2 == 0 {
-            return pairs <= RENAME_IDENTIFIERS;
-        }
-        return false;
+        kinds::SCHEMA..=kinds::ABBREVIATION => n == p + BESIDE_PARAMETERS,
+        _ => true,
     }
-    if q < kinds::SCHEMA {
-        return true;
-    }
-    if kinds::ABBREVIATION < q {
-        return true;
-    }
-    n == p + BESIDE_PARAMETERS
 }
 
 // The operand count of a node with these words.
@@ -173,10 +172,5 @@ pub fn count_ok(w: &[u32]) -> bool
 {
     let q = word(w, 0);
     let n = operand_count(w);
-    let p = word(w, 2);
-    let a = word(w, 3);
-    if count_row(q, n) {
-        return count_by(q, n, p, a);
-    }
-    false
+    count_row(q, n) && count_by(q, n, word(w, 2), word(w, 3))
 }

@@ -9,13 +9,11 @@ use codes::kinds;
 pub fn is_between(a: usize, q: usize, b: usize) -> bool
     ensures { result ≡ between a q b }
 {
-    if a <= q {
-        return q <= b;
-    }
-    false
+    a <= q && q <= b
 }
 
 // Text, Decl and Include.
+#[tactic(auto, unfolding(crate::specs::Choices::other_sort, crate::specs::Choices::by_kind))]
 fn text(q: usize) -> usize
     requires { (10 ≤ q) × (q ≤ 12) }
     ensures { result ≡ other_sort q }
@@ -28,6 +26,7 @@ fn text(q: usize) -> usize
 }
 
 // The kinds outside paragraphs, predicates and expressions, listed or not.
+#[tactic(auto, unfolding(crate::specs::Choices::other_sort, crate::specs::Choices::by_kind))]
 fn other(q: usize) -> usize
     ensures { result ≡ other_sort q }
 {
@@ -39,6 +38,7 @@ fn other(q: usize) -> usize
 }
 
 // The narrowest sort of kind q, 0 where it has none.
+#[tactic(auto, unfolding(crate::specs::Choices::chosen_sort, crate::specs::Choices::by_ranges))]
 fn sort_of(q: usize) -> usize
     ensures { result ≡ chosen_sort q }
 {
@@ -51,28 +51,22 @@ fn sort_of(q: usize) -> usize
 }
 
 // What is of sort t is of node sort s: texts and includes are schema expressions too, and includes are lines.
+#[tactic(auto, unfolding(crate::specs::Choices::within))]
 fn is_within(t: usize, s: usize) -> bool
     ensures { result ≡ within t s }
 {
     if s <= sorts::LAST_PLAIN {
         return false;
     }
-    if s == t {
-        return true;
+    match s {
+        sorts::SCHEMA_EXPRESSIONS => t == s || t == sorts::TEXTS || t == sorts::INCLUDES,
+        sorts::LINES => t == s || t == sorts::INCLUDES,
+        _ => t == s,
     }
-    if s == sorts::SCHEMA_EXPRESSIONS {
-        if t == sorts::TEXTS {
-            return true;
-        }
-        return t == sorts::INCLUDES;
-    }
-    if s == sorts::LINES {
-        return t == sorts::INCLUDES;
-    }
-    false
 }
 
 // Kind q is of node sort s.
+#[tactic(auto, using(crate::proofs::SortLaws::sorts_chosen))]
 pub fn of_sort(s: usize, q: usize) -> bool
     ensures { result ≡ of_sort s q }
 {

@@ -4,14 +4,14 @@ ghost use Rattle.reader_rules.specs.Nodes.{kind_at, operand_at};
 ghost use Rattle.reader_rules.specs.Findings.{plain_at, plain_words, lower_at, lower_nodes, number_of, node_number};
 ghost use Rattle.reader_rules.specs.Reading.{lowest};
 
-use crate::counts::{count_ok, is_listed, operand_count};
+use crate::counts::{count_ok, is_listed};
 use crate::kinds::of_sort;
 use crate::operands::sort_at;
 use crate::plain::plain_ok;
 use crate::sorts;
 use codes::findings;
 use layout::part;
-use reader_rules::Reading;
+use reader_rules::Refusal;
 use words::word;
 
 // The kind of node k.
@@ -35,15 +35,12 @@ fn plain_at(w: &[u32], i: usize) -> bool
     plain_ok(sort_at(w, i), word(w, i))
 }
 
+#[tactic(auto, using(words::proofs::Loops::every_turns))]
 fn plain_words(w: &[u32]) -> bool
     ensures { result ≡ plain_words w.now }
 {
-    let n = operand_count(w);
-    let mut i = 1;
-    while i < n + 1 {
-        if plain_at(w, i) {
-            i += 1;
-        } else {
+    for i in 1..w.len() {
+        if !plain_at(w, i) {
             return false;
         }
     }
@@ -59,24 +56,15 @@ fn lower_at(doc: &[u32], k: usize, w: &[u32], i: usize) -> bool
     if s <= sorts::LAST_PLAIN {
         return true;
     }
-    if v < 1 {
-        return false;
-    }
-    if v < k {
-        return of_sort(s, kind_at(doc, v));
-    }
-    false
+    1 <= v && v < k && of_sort(s, kind_at(doc, v))
 }
 
+#[tactic(auto, using(words::proofs::Loops::every_turns))]
 fn lower_nodes(doc: &[u32], k: usize, w: &[u32]) -> bool
     ensures { result ≡ lower_nodes doc.now k w.now }
 {
-    let n = operand_count(w);
-    let mut i = 1;
-    while i < n + 1 {
-        if lower_at(doc, k, w, i) {
-            i += 1;
-        } else {
+    for i in 1..w.len() {
+        if !lower_at(doc, k, w, i) {
             return false;
         }
     }
@@ -87,36 +75,32 @@ fn lower_nodes(doc: &[u32], k: usize, w: &[u32]) -> bool
 fn number_of(doc: &[u32], k: usize, w: &[u32]) -> u32
     ensures { result ≡ number_of doc.now k w.now }
 {
-    if is_listed(word(w, 0)) {
-        if count_ok(w) {
-            if plain_words(w) {
-                if lower_nodes(doc, k, w) {
-                    return 0;
-                }
-                return findings::WRONG_NODE;
-            }
-            return findings::WRONG_OPERANDS;
-        }
+    if !is_listed(word(w, 0)) {
+        return findings::UNLISTED_KIND;
+    }
+    if !count_ok(w) || !plain_words(w) {
         return findings::WRONG_OPERANDS;
     }
-    findings::UNLISTED_KIND
+    if !lower_nodes(doc, k, w) {
+        return findings::WRONG_NODE;
+    }
+    0
 }
 
 // The first finding among the nodes.
-pub fn check_nodes(doc: &[u32]) -> Reading
+#[tactic(auto, using(reader_rules::proofs::Scan::scan_turns))]
+pub fn check_nodes(doc: &[u32]) -> Result<(), Refusal>
     ensures { result ≡ lowest doc.now (node_number doc.now) }
 {
     let n = word(doc, 0);
-    let mut k = 1;
-    while k < n + 1 {
+    for k in 1..n + 1 {
         let number = number_of(doc, k, part(doc, k));
         if number != 0 {
-            return Reading::Refused {
+            return Err(Refusal {
                 number: number,
                 place: k as u32,
-            };
+            });
         }
-        k += 1;
     }
-    Reading::Readable
+    Ok(())
 }

@@ -19,6 +19,7 @@ const FIRST: usize = DIGIT * SECOND;
 
 const NOTHING: usize = 0;
 
+#[tactic(auto, unfolding(crate::specs::Choices::sorts_number))]
 fn by_place(first: usize, second: usize, others: usize, last: usize) -> usize
     requires { (first < 16) × (second < 16) × (others < 16) × (last < 16) }
     ensures { result ≡ sorts_number (by_place first second others last) }
@@ -48,6 +49,7 @@ fn one(s: usize) -> usize
 }
 
 // Given and Axiom.
+#[tactic(auto, unfolding(crate::specs::Choices::sorts_number, crate::specs::Choices::paragraph_sorts))]
 fn declaration(q: usize) -> usize
     requires { (2 ≤ q) × (q ≤ 3) }
     ensures { result ≡ sorts_number (paragraph_sorts q) }
@@ -59,6 +61,7 @@ fn declaration(q: usize) -> usize
 }
 
 // Schema and Abbreviation.
+#[tactic(auto, unfolding(crate::specs::Choices::sorts_number, crate::specs::Choices::paragraph_sorts))]
 fn definition(q: usize) -> usize
     requires { (4 ≤ q) × (q ≤ 5) }
     ensures { result ≡ sorts_number (paragraph_sorts q) }
@@ -79,6 +82,7 @@ fn definition(q: usize) -> usize
     )
 }
 
+#[tactic(auto, unfolding(crate::specs::Choices::paragraph_sorts))]
 fn paragraph(q: usize) -> usize
     requires { (2 ≤ q) × (q ≤ 6) }
     ensures { result ≡ sorts_number (paragraph_sorts q) }
@@ -90,8 +94,8 @@ fn paragraph(q: usize) -> usize
     }
 }
 
+#[tactic(auto, unfolding(crate::specs::Choices::sorts_number, crate::specs::Choices::predicate_sorts))]
 fn predicate(q: usize) -> usize
-    requires { (20 ≤ q) × (q ≤ 29) }
     ensures { result ≡ sorts_number (predicate_sorts q) }
 {
     match q {
@@ -104,6 +108,7 @@ fn predicate(q: usize) -> usize
 }
 
 // Ref, Number and ℤ.
+#[tactic(auto, unfolding(crate::specs::Choices::sorts_number, crate::specs::Choices::expression_sorts))]
 fn name_or_number(q: usize) -> usize
     requires { (30 ≤ q) × (q ≤ 32) }
     ensures { result ≡ sorts_number (expression_sorts q) }
@@ -121,6 +126,7 @@ fn name_or_number(q: usize) -> usize
 }
 
 // Select, Theta and SchemaSet.
+#[tactic(auto, unfolding(crate::specs::Choices::sorts_number, crate::specs::Choices::expression_sorts))]
 fn binding(q: usize) -> usize
     requires { (38 ≤ q) × (q ≤ 40) }
     ensures { result ≡ sorts_number (expression_sorts q) }
@@ -132,6 +138,7 @@ fn binding(q: usize) -> usize
     }
 }
 
+#[tactic(auto, unfolding(crate::specs::Choices::sorts_number, crate::specs::Choices::expression_sorts))]
 fn expression(q: usize) -> usize
     requires { (30 ≤ q) × (q ≤ 46) }
     ensures { result ≡ sorts_number (expression_sorts q) }
@@ -147,6 +154,7 @@ fn expression(q: usize) -> usize
 }
 
 // Text, Decl and Include.
+#[tactic(auto, unfolding(crate::specs::Choices::sorts_number, crate::specs::Choices::other_sorts, crate::specs::Choices::by_kind))]
 fn text(q: usize) -> usize
     requires { (10 ≤ q) × (q ≤ 12) }
     ensures { result ≡ sorts_number (other_sorts q) }
@@ -169,6 +177,7 @@ fn text(q: usize) -> usize
 }
 
 // The kinds outside paragraphs, predicates and expressions, listed or not.
+#[tactic(auto, unfolding(crate::specs::Choices::sorts_number, crate::specs::Choices::other_sorts, crate::specs::Choices::by_kind))]
 fn other(q: usize) -> usize
     ensures { result ≡ sorts_number (other_sorts q) }
 {
@@ -180,6 +189,7 @@ fn other(q: usize) -> usize
     }
 }
 
+#[tactic(auto, unfolding(crate::specs::Choices::chosen_sorts, crate::specs::Choices::by_ranges))]
 fn sorts_of(q: usize) -> usize
     ensures { result ≡ sorts_number (chosen_sorts q) }
 {
@@ -191,20 +201,20 @@ fn sorts_of(q: usize) -> usize
     }
 }
 
+#[tactic(auto, using(crate::proofs::ChoiceLaws::first_cell, crate::proofs::ChoiceLaws::second_cell, crate::proofs::ChoiceLaws::others_cell))]
 fn sort_row(q: usize, i: usize) -> usize
     ensures { result ≡ sort_row q i }
 {
     let chosen = sorts_of(q);
-    if i == 1 {
-        return chosen / FIRST;
+    match i {
+        1 => chosen / FIRST,
+        2 => chosen / SECOND % DIGIT,
+        _ => chosen / OTHERS % DIGIT,
     }
-    if i == 2 {
-        return chosen / SECOND % DIGIT;
-    }
-    chosen / OTHERS % DIGIT
 }
 
 // The sort of the last operand where it differs, else 0.
+#[tactic(auto, using(crate::proofs::ChoiceLaws::last_cell))]
 fn sort_last(q: usize) -> usize
     ensures { result ≡ cell q 5 }
 {
@@ -226,6 +236,7 @@ fn sort_include(a: usize, i: usize) -> usize
 }
 
 // The sort of operand i of n, of a node of kind q, with a actuals if that is an Include.
+#[tactic(auto, unfolding(reader_rules::specs::Kinds::sort_in))]
 fn sort_in(q: usize, n: usize, a: usize, i: usize) -> usize
     requires { a < 2 ^ 32 }
     ensures { result ≡ sort_in q n a i }
@@ -238,7 +249,6 @@ fn sort_in(q: usize, n: usize, a: usize, i: usize) -> usize
         if 0 < last {
             return last;
         }
-        return sort_row(q, i);
     }
     sort_row(q, i)
 }

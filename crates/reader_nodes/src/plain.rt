@@ -9,18 +9,17 @@ use codes::{identifiers, limits};
 fn is_name(v: usize) -> bool
     ensures { result ≡ is_name v }
 {
-    if 1 <= v {
-        return v <= identifiers::LARGEST_NAME;
-    }
-    false
+    1 <= v && v <= identifiers::LARGEST_NAME
 }
 
+#[tactic(auto, unfolding(reader_rules::specs::Identifiers::name_of, reader_rules::specs::Identifiers::is_identifier))]
 fn is_identifier(v: usize) -> bool
     ensures { result ≡ is_identifier v }
 {
     is_name(v / identifiers::STROKES)
 }
 
+#[tactic(auto, unfolding(reader_rules::specs::Kinds::plain_ok))]
 fn named_ok(s: usize, v: usize) -> bool
     requires { (1 ≤ s) × (s ≤ 2) }
     ensures { result ≡ plain_ok s v }
@@ -31,6 +30,7 @@ fn named_ok(s: usize, v: usize) -> bool
     is_name(v)
 }
 
+#[tactic(auto, unfolding(reader_rules::specs::Kinds::plain_ok))]
 fn number_ok(s: usize, v: usize) -> bool
     requires { (3 ≤ s) × (s ≤ 5) }
     ensures { result ≡ plain_ok s v }
@@ -43,6 +43,7 @@ fn number_ok(s: usize, v: usize) -> bool
 }
 
 // A plain word v of sort s is in range.
+#[tactic(auto, unfolding(reader_rules::specs::Kinds::plain_ok))]
 pub fn plain_ok(s: usize, v: usize) -> bool
     ensures { result ≡ plain_ok s v }
 {

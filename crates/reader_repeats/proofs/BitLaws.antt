@@ -72,3 +72,5 @@ free_past seen i h = rw (get_or-eq_default seen 0 h, zero-div)
 pub mark_past : (seen : List ℕ) (i : ℕ) → length seen ≤ i / bits → seen ≡ with_mark seen i
 unfolding with_mark
 mark_past seen i h = sym (set_out _ _ _ h)
+
+pub ruleset mark_turns = (free_read, mark_written, free_past, mark_past)

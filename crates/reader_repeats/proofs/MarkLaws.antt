@@ -1,27 +1,24 @@
 -- One turn of the loops over identifiers; the list that is left at i is `drop i`.
-use mathlib.Core.Path.{◌≡◌}
-use mathlib.Core.Bool.{true, false}
-use mathlib.Core.List.{List}
-use Prim.Native.Nat.{ℕ, ◌+◌, ◌≤◌, ◌<◌}
-use lib.ListN.{length, get_or, drop}
-use borrow.Author.Tests.{eq-eqb, ne_eqb}
+use mathlib.Core.Path.{◌≡◌, refl, ap, ◌∙◌}
+use mathlib.Core.Bool.{Bool, true, false, ◌||◌}
+use mathlib.Core.List.{List, [], ◌∷◌}
+use Prim.Native.Nat.{ℕ, ◌+◌, ◌-◌, ◌≤◌, ◌<◌}
+use native.Mathlib.Omega.{arith}
+use lib.ListN.{length, get_or, take, drop, length-drop}
+use lib.Seq.{take_all}
+use lib.Dec.{eqb}
+use Rattle.std.specs.List.{list_any}
 use Rattle.words.specs.Loops.{has}
 use Rattle.words.proofs.Lists.{drop_next, drop_done}
 use Rattle.reader_repeats.specs.Marks.{is_free, with_mark, unmarked, marked, distinct, shares}
 
+-- what stands in a list, as the library's tests of lists say it
+pub has_any : (x : ℕ) (xs : List ℕ) → has x xs ≡ list_any (λ y. eqb y x) xs
+unfolding has
+has_any x [] = refl
+has_any x (y ∷ xs) = ap (λ (b : Bool). eqb y x || b) (has_any x xs)
+
 module _ (xs : List ℕ) (i : ℕ) where
-  pub has_here : (x : ℕ) → i < length xs → get_or xs i 0 ≡ x → true ≡ has x (drop i xs)
-  unfolding has
-  has_here x h e = rw (drop_next xs i h, has, eq-eqb (get_or xs i 0) x e)
-
-  pub has_go : (x : ℕ) → i < length xs → (get_or xs i 0 ≡ x → ⊥) → has x (drop i xs) ≡ has x (drop (i + 1) xs)
-  unfolding has
-  has_go x h e = rw (drop_next xs i h, has, ne_eqb (get_or xs i 0) x e)
-
-  pub has_end : (x : ℕ) → length xs ≤ i → false ≡ has x (drop i xs)
-  unfolding has
-  has_end x h = rw (drop_done xs i h)
-
   pub unmarked_off : (seen : List ℕ) → i < length xs → is_free seen (get_or xs i 0) ≡ false → false ≡ unmarked (drop i xs) seen
   unfolding unmarked
   unmarked_off seen h e = rw (drop_next xs i h, unmarked, e)
@@ -43,26 +40,35 @@ module _ (xs : List ℕ) (i : ℕ) where
   unfolding marked
   marked_end seen h = rw (drop_done xs i h)
 
-  pub distinct_off : i < length xs → has (get_or xs i 0) (drop (i + 1) xs) ≡ true → false ≡ distinct (drop i xs)
-  unfolding distinct
-  distinct_off h e = rw (drop_next xs i h, distinct, e)
+  rest_of : (j : ℕ) → take (length xs - j) (drop j xs) ≡ drop j xs
+  rest_of j = take_all (length xs - j) (drop j xs) (rw (length-drop j xs) (omega arith))
 
-  pub distinct_go : i < length xs → has (get_or xs i 0) (drop (i + 1) xs) ≡ false → distinct (drop i xs) ≡ distinct (drop (i + 1) xs)
+  pub distinct_off : i < length xs → list_any (λ y. eqb y (get_or xs i 0)) (take (length xs - (i + 1)) (drop (i + 1) xs)) ≡ true → false ≡ distinct (drop i xs)
   unfolding distinct
-  distinct_go h e = rw (drop_next xs i h, distinct, e)
+  distinct_off h e = let s : has (get_or xs i 0) (drop (i + 1) xs) ≡ true = has_any _ _ ∙ rw (rest_of (i + 1)) at e in rw (drop_next xs i h, distinct, s)
+
+  pub distinct_go : i < length xs → list_any (λ y. eqb y (get_or xs i 0)) (take (length xs - (i + 1)) (drop (i + 1) xs)) ≡ false → distinct (drop i xs) ≡ distinct (drop (i + 1) xs)
+  unfolding distinct
+  distinct_go h e = let s : has (get_or xs i 0) (drop (i + 1) xs) ≡ false = has_any _ _ ∙ rw (rest_of (i + 1)) at e in rw (drop_next xs i h, distinct, s)
 
   pub distinct_end : length xs ≤ i → true ≡ distinct (drop i xs)
   unfolding distinct
   distinct_end h = rw (drop_done xs i h)
 
-  pub shares_on : (ys : List ℕ) → i < length xs → has (get_or xs i 0) ys ≡ true → true ≡ shares ys (drop i xs)
+  pub shares_on : (ys : List ℕ) → i < length xs → list_any (λ y. eqb y (get_or xs i 0)) ys ≡ true → true ≡ shares ys (drop i xs)
   unfolding shares
-  shares_on ys h e = rw (drop_next xs i h, shares, e)
+  shares_on ys h e = rw (drop_next xs i h, shares, has_any _ ys ∙ e)
 
-  pub shares_go : (ys : List ℕ) → i < length xs → has (get_or xs i 0) ys ≡ false → shares ys (drop i xs) ≡ shares ys (drop (i + 1) xs)
+  pub shares_go : (ys : List ℕ) → i < length xs → list_any (λ y. eqb y (get_or xs i 0)) ys ≡ false → shares ys (drop i xs) ≡ shares ys (drop (i + 1) xs)
   unfolding shares
-  shares_go ys h e = rw (drop_next xs i h, shares, e)
+  shares_go ys h e = rw (drop_next xs i h, shares, has_any _ ys ∙ e)
 
   pub shares_end : (ys : List ℕ) → length xs ≤ i → false ≡ shares ys (drop i xs)
   unfolding shares
   shares_end ys h = rw (drop_done xs i h)
+
+pub ruleset unmarked_turns = (unmarked_off, unmarked_go, unmarked_end, marked_go, marked_end)
+
+pub ruleset distinct_turns = (distinct_off, distinct_go, distinct_end)
+
+pub ruleset shares_turns = (shares_on, shares_go, shares_end)

@@ -6,7 +6,7 @@ use Prim.Native.Nat.{ℕ, suc, ◌+◌, ◌-◌, ◌*◌, ◌/◌, ◌%◌, ◌^
 use native.Mathlib.Omega.{arith}
 use native.Mathlib.Decide.{ℕ_discrete}
 use lib.Dec.{eqb}
-use lib.ListN.{length, get_or, set, length-set, replicate, length-replicate, get_or-replicate}
+use lib.ListN.{length, get_or, length-set, replicate, length-replicate, get_or-replicate}
 use lib.Bits.{bit_or}
 use native.Mathlib.Nat.{zero-div}
 use borrow.Author.Tests.{eq-eqb, ne_eqb}

@@ -4,7 +4,7 @@ use Rattle.layout.specs.Layout.{count, laid_out}
 use Rattle.reader_rules.specs.Nodes.{document_form, parent}
 use Rattle.reader_rules.specs.Findings.{node_number, use_number}
 use Rattle.reader_rules.specs.Reading.{lowest}
-use Rattle.reader_rules.specs.declared.Reading.TheVariants.{Readable}
+use Rattle.reader_rules.specs.Refusals.{Readable}
 
 -- a place for each node, and one for 0
 abbrev pub places : ℕ

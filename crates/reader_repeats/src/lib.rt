@@ -5,11 +5,10 @@ use crate::marks::{BITS, are_distinct, mark_new, share};
 use crate::written::{declared_at, globals_at, parameters_at, schemas_at};
 use codes::{findings, identifiers, kinds};
 use layout::part;
-use reader_nodes::counts::operand_count;
 use reader_nodes::nodes::kind_at;
 use reader_nodes::operands::sort_at;
 use reader_nodes::sorts;
-use reader_rules::Reading;
+use reader_rules::Refusal;
 use words::word;
 
 mod marks;
@@ -33,31 +32,21 @@ const IDENTIFIERS: usize = identifiers::STROKES * NAMES;
 fn shared_at(doc: &[u32], k: usize, ids: &[u32], w: &[u32], i: usize) -> bool
     ensures { result ≡ shared_at doc.now k ids.now w.now i }
 {
-    let s = sort_at(w, i);
     let d = word(w, i);
-    if s <= sorts::LAST_PLAIN {
+    if sort_at(w, i) <= sorts::LAST_PLAIN || k <= d {
         return false;
     }
-    if k <= d {
-        return false;
-    }
-    let q = kind_at(doc, d);
-    if q == kinds::DECL {
-        return share(declared_at(doc, d), ids);
-    }
-    false
+    kind_at(doc, d) == kinds::DECL && share(declared_at(doc, d), ids)
 }
 
+#[tactic(auto, using(words::proofs::Loops::some_turns))]
 fn shared_before(doc: &[u32], k: usize, ids: &[u32], w: &[u32]) -> bool
     ensures { result ≡ some (shared_at doc.now k ids.now w.now) 1 (length w.now - 1) }
 {
-    let n = operand_count(w);
-    let mut i = 1;
-    while i < n + 1 {
+    for i in 1..w.len() {
         if shared_at(doc, k, ids, w, i) {
             return true;
         }
-        i += 1;
     }
     false
 }
@@ -114,23 +103,21 @@ fn repeat_number(doc: &[u32], up: &[u32], k: usize, seen: &mut [u8], names: &mut
 }
 
 // The first node that repeats what was written before it.
-pub fn first_repeat(doc: &[u32], up: &[u32]) -> Reading
+pub fn first_repeat(doc: &[u32], up: &[u32]) -> Result<(), Refusal>
     requires { Linked doc.now up.now }
     ensures { result ≡ lowest doc.now (repeat_number doc.now) }
 {
     let mut seen = [0u8; IDENTIFIERS];
     let mut names = [0u8; NAMES];
     let n = word(doc, 0);
-    let mut k = 1;
-    while k < n + 1 {
+    for k in 1..n + 1 {
         let number = repeat_number(doc, up, k, &mut seen, &mut names);
         if number != 0 {
-            return Reading::Refused {
+            return Err(Refusal {
                 number: number,
                 place: k as u32,
-            };
+            });
         }
-        k += 1;
     }
-    Reading::Readable
+    Ok(())
 }

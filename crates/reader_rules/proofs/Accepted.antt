@@ -17,7 +17,7 @@ use Rattle.reader_rules.specs.Findings.{plain_words, lower_at, lower_nodes, node
 use Rattle.reader_rules.specs.Repeats.{repeat_number}
 use Rattle.reader_rules.specs.Limits.{limit_number}
 use Rattle.reader_rules.specs.Reading.{lowest, read_of}
-use Rattle.reader_rules.specs.declared.Reading.TheVariants.{Readable}
+use Rattle.reader_rules.specs.Refusals.{Readable}
 use Rattle.reader_rules.proofs.Scan.{scan_none, then_none, cond_none, cond_zero}
 
 -- findings 12 to 14 absent at node k

@@ -11,7 +11,7 @@ use Rattle.layout.specs.Layout.{count}
 use Rattle.reader_rules.specs.Nodes.{children, parent, above, ancestors}
 use Rattle.reader_rules.specs.Limits.{depth}
 use Rattle.reader_rules.specs.Reading.{read_of}
-use Rattle.reader_rules.specs.declared.Reading.TheVariants.{Readable}
+use Rattle.reader_rules.specs.Refusals.{Readable}
 use Rattle.reader_rules.specs.Promise.{Lower}
 use Rattle.reader_rules.proofs.Accepted.{Nodes, Document, readable, used_once}
 use Rattle.reader_rules.proofs.Parents.{child_lower, parent_only, parent_most, parent_rises}

@@ -10,7 +10,7 @@ use Rattle.reader_rules.specs.Kinds.{texts, lines, paragraphs}
 use Rattle.reader_rules.specs.Nodes.{kind_at, operand_at}
 use Rattle.reader_rules.specs.Repeats.{declared_in, is_axiom_decl, globals}
 use Rattle.reader_rules.specs.Reading.{read_of}
-use Rattle.reader_rules.specs.declared.Reading.TheVariants.{Readable}
+use Rattle.reader_rules.specs.Refusals.{Readable}
 use Rattle.reader_rules.specs.Promise.{At, Lower}
 use Rattle.reader_rules.specs.Tree.{Lines, end}
 use Rattle.reader_rules.specs.Decode.{expr_at, pred_at, text_at, include_at, line_at, paragraph_at, lines_from, paragraphs_from, tree_of}

@@ -9,7 +9,7 @@ use Rattle.layout.specs.Layout.{count}
 use Rattle.reader_rules.specs.Nodes.{kind_at}
 use Rattle.reader_rules.specs.Limits.{texts_among, nodes_left, texts_left}
 use Rattle.reader_rules.specs.Reading.{read_of}
-use Rattle.reader_rules.specs.declared.Reading.TheVariants.{Readable}
+use Rattle.reader_rules.specs.Refusals.{Readable}
 use Rattle.reader_rules.specs.Promise.{At, Lower}
 use Rattle.reader_rules.proofs.Accepted.{readable}
 use Rattle.reader_rules.proofs.DepthLaws.{operand_ancestors, ancestors_last}

@@ -6,6 +6,7 @@ use Prim.Native.Nat.{ℕ, zero, suc, ◌≤◌}
 use native.Mathlib.Omega.{arith}
 use lib.Dec.{ltb, eqb}
 use lib.ListN.{get_or}
+use Rattle.std.specs.Prelude.{Ok, Err}
 use Rattle.layout.specs.Layout.{count, laid_out, part}
 use Rattle.reader_rules.specs.Kinds.{listed, count_ok}
 use Rattle.reader_rules.specs.Nodes.{document_form, kind_at, uses}
@@ -13,14 +14,13 @@ use Rattle.reader_rules.specs.Findings.{found, scan, and_then, plain_words, lowe
 use Rattle.reader_rules.specs.Repeats.{repeats, repeat_number}
 use Rattle.reader_rules.specs.Limits.{too_deep, too_nested, too_wide, too_crowded, too_many, limit_number}
 use Rattle.reader_rules.specs.Reading.{read_of}
-use Rattle.reader_rules.specs.declared.Reading.{Reading}
-use Rattle.reader_rules.specs.declared.Reading.TheVariants.{Readable, Refused}
+use Rattle.reader_rules.specs.Refusals.{Finding, Readable, Refused}
 
-abbrev Low : Reading → Type 0
-Low Readable = Unit {0}
-Low (Refused n p) = n ≤ 17
+abbrev Low : Finding → Type 0
+Low (Ok x) = Unit {0}
+Low (Err r) = r.number ≤ 17
 
-low_found : (x k : ℕ) (r : Reading) → x ≤ 17 → Low r → Low (found x k r)
+low_found : (x k : ℕ) (r : Finding) → x ≤ 17 → Low r → Low (found x k r)
 low_found zero k r h l = l
 low_found (suc x) k r h l = h
 
@@ -29,11 +29,11 @@ unfolding scan
 low_scan f h k zero = tt
 low_scan f h k (suc m) = low_found (f k) k _ (h k) (low_scan f h (suc k) m)
 
-low_then : (a b : Reading) → Low a → Low b → Low (and_then a b)
-low_then Readable b h k = k
-low_then (Refused n p) b h k = h
+low_then : (a b : Finding) → Low a → Low b → Low (and_then a b)
+low_then (Ok x) b h k = k
+low_then (Err r) b h k = h
 
-low_or : (b : Bool) (r q : Reading) → Low r → Low q → Low (cond b r q)
+low_or : (b : Bool) (r q : Finding) → Low r → Low q → Low (cond b r q)
 low_or true r q h k = h
 low_or false r q h k = k
 
@@ -72,9 +72,9 @@ read_low doc =
     (low_then c d (low_scan (repeat_number doc) (repeat_low doc) 1 (count doc)) (low_scan (limit_number doc) (limit_low doc) 1 (count doc)))))
     (omega arith)
 
-refused_low : (r : Reading) → Low r → (n p : ℕ) → r ≡ Refused n p → n ≤ 17
-refused_low Readable h n p e = let z : ◌≡◌ {A = ℕ} 0 1 = cc in absurd (omega arith)
-refused_low (Refused m q) h n p e = let z : m ≡ n = cc in omega arith
+refused_low : (r : Finding) → Low r → (n p : ℕ) → r ≡ Refused n p → n ≤ 17
+refused_low (Ok x) h n p e = let z : ◌≡◌ {A = ℕ} 0 1 = cc in absurd (omega arith)
+refused_low (Err r) h n p e = let z : r.number ≡ n = cc in omega arith
 
 pub read_number : (doc : List ℕ) (n p : ℕ) → read_of doc ≡ Refused n p → n ≤ 17
 read_number doc n p e = refused_low (read_of doc) (read_low doc) n p e

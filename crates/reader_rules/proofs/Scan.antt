@@ -1,21 +1,22 @@
 -- Laws of `scan`: one turn of a loop over nodes, and what it means that nothing is found.
-use mathlib.Core.Path.{◌≡◌, refl, sym, ◌∙◌, subst}
-use mathlib.Core.Bool.{Bool, true, false, cond}
+use mathlib.Core.Path.{◌≡◌, refl, sym, ◌∙◌, ap, subst}
+use mathlib.Core.Bool.{Bool, true, false, true≢false, cond}
 use mathlib.Core.Logic.{⊎_elim}
 use Prim.Native.Nat.{ℕ, zero, suc, ◌+◌, ◌-◌, ◌≤◌, ◌<◌}
 use native.Mathlib.Omega.{arith}
 use native.Mathlib.Numerals.{add-one}
 use native.Mathlib.Nat.{eq-or-lt_of_le}
+use Rattle.std.specs.Prelude.{Result, Ok, Err, is_err}
+use Rattle.reader_rules.specs.declared.Refusal.{Refusal}
 use Rattle.words.proofs.Loops.{turn, none_left_lem}
 use Rattle.reader_rules.specs.Findings.{found, scan, and_then}
-use Rattle.reader_rules.specs.declared.Reading.{Reading}
-use Rattle.reader_rules.specs.declared.Reading.TheVariants.{Readable, Refused}
+use Rattle.reader_rules.specs.Refusals.{Finding, Readable, Refused}
 
-pub found_zero : (v k : ℕ) (r : Reading) → v ≡ 0 → found v k r ≡ r
+pub found_zero : (v k : ℕ) (r : Finding) → v ≡ 0 → found v k r ≡ r
 found_zero zero k r e = refl
 found_zero (suc v) k r e = absurd (omega arith)
 
-pub found_not : (v k : ℕ) (r : Reading) → (v ≡ 0 → ⊥) → found v k r ≡ Refused v k
+pub found_not : (v k : ℕ) (r : Finding) → (v ≡ 0 → ⊥) → found v k r ≡ Refused v k
 found_not zero k r e = absurd (e refl)
 found_not (suc v) k r e = refl
 
@@ -33,10 +34,33 @@ module _ (f : ℕ → ℕ) (e k : ℕ) where
   unfolding scan
   scan_end h = rw (none_left_lem e k h)
 
+pub ruleset scan_turns = (scan_hit, scan_go, scan_end)
+
+abbrev number_in : {A : Type 0} → Result A Refusal → ℕ
+number_in (Ok x) = 0
+number_in (Err err) = err.number
+
+abbrev place_in : {A : Type 0} → Result A Refusal → ℕ
+place_in (Ok x) = 0
+place_in (Err err) = err.place
+
+-- a refusal has one number and one place
+pub same_refusal : {A : Type 0} (n p m q : ℕ) → Refused {A = A} n p ≡ Refused m q → (n ≡ m) × (p ≡ q)
+same_refusal n p m q e = (ap number_in e, ap place_in e)
+
+-- what `is_err` says of a finding
+pub refused_by : (r : Finding) → is_err r ≡ true → (err : Refusal) × (r ≡ Err err)
+refused_by (Ok tt) e = absurd (true≢false (sym e))
+refused_by (Err err) e = (err, refl)
+
+pub readable_by : (r : Finding) → is_err r ≡ false → r ≡ Readable
+readable_by (Ok tt) e = refl
+readable_by (Err err) e = absurd (true≢false e)
+
 pub never : {B : Type 0} (n p : ℕ) → Refused n p ≡ Readable → B
 never n p e = let z : ◌≡◌ {A = ℕ} 0 1 = cc in absurd (omega arith)
 
-found_none : (v k : ℕ) (r : Reading) → found v k r ≡ Readable → (v ≡ 0) × (r ≡ Readable)
+found_none : (v k : ℕ) (r : Finding) → found v k r ≡ Readable → (v ≡ 0) × (r ≡ Readable)
 found_none zero k r e = (refl, e)
 found_none (suc v) k r e = never (suc v) k e
 
@@ -52,11 +76,11 @@ unfolding scan
 scan_clear f i zero h = refl
 scan_clear f i (suc m) h = found_zero (f i) i _ (h i (omega arith) (omega arith)) ∙ scan_clear f (suc i) m (λ j p q. h j (omega arith) (omega arith))
 
-pub then_none : (a b : Reading) → and_then a b ≡ Readable → (a ≡ Readable) × (b ≡ Readable)
-then_none Readable b e = (refl, e)
-then_none (Refused n p) b e = never n p e
+pub then_none : (a b : Finding) → and_then a b ≡ Readable → (a ≡ Readable) × (b ≡ Readable)
+then_none (Ok tt) b e = (refl, e)
+then_none (Err r) b e = never r.number r.place e
 
-pub cond_none : (b : Bool) (r : Reading) (n p : ℕ) → cond b r (Refused n p) ≡ Readable → (b ≡ true) × (r ≡ Readable)
+pub cond_none : (b : Bool) (r : Finding) (n p : ℕ) → cond b r (Refused n p) ≡ Readable → (b ≡ true) × (r ≡ Readable)
 cond_none true r n p e = (refl, e)
 cond_none false r n p e = never n p e
 

@@ -10,7 +10,7 @@ use Rattle.layout.specs.Layout.{count, part}
 use Rattle.reader_rules.specs.Kinds.{cell, expressions, schema_expressions, predicates, texts, lines, paragraphs, includes}
 use Rattle.reader_rules.specs.Nodes.{kind_at, operand_at}
 use Rattle.reader_rules.specs.Reading.{read_of}
-use Rattle.reader_rules.specs.declared.Reading.TheVariants.{Readable}
+use Rattle.reader_rules.specs.Refusals.{Readable}
 use Rattle.reader_rules.specs.Promise.{At, Lower}
 use Rattle.reader_rules.specs.Tree.{Expr, Exprs, none, more, Lines, end, exprs_length}
 use Rattle.reader_rules.specs.Decode.{expr_at, pred_at, text_at, include_at, line_at, schema_at, paragraph_at, exprs_from, lines_from, paragraphs_from, tree_of}

@@ -14,7 +14,7 @@ use Rattle.reader_rules.specs.Kinds.{cell, sort_at, sort_in, is_node_sort, betwe
 use Rattle.reader_rules.specs.Kinds.{predicates, texts, lines, paragraphs, includes}
 use Rattle.reader_rules.specs.Nodes.{kind_at, operand_at, nodes_among, children}
 use Rattle.reader_rules.specs.Reading.{read_of}
-use Rattle.reader_rules.specs.declared.Reading.TheVariants.{Readable}
+use Rattle.reader_rules.specs.Refusals.{Readable}
 use Rattle.reader_rules.specs.Promise.{At}
 use Rattle.reader_rules.specs.Tree.{Lines, end}
 use Rattle.reader_rules.specs.Decode.{expr_at, pred_at, text_at, include_at, line_at, schema_at, paragraph_at, exprs_from, lines_from, paragraphs_from, tree_of}

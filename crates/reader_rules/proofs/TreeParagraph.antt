@@ -12,7 +12,7 @@ use Rattle.layout.specs.Layout.{count, part}
 use Rattle.reader_rules.specs.Kinds.{cell, sort_at, sort_in, of_sort, expressions, schema_expressions, predicates, texts, paragraphs, counts, is_node_sort}
 use Rattle.reader_rules.specs.Nodes.{kind_at, operand_at}
 use Rattle.reader_rules.specs.Reading.{read_of}
-use Rattle.reader_rules.specs.declared.Reading.TheVariants.{Readable}
+use Rattle.reader_rules.specs.Refusals.{Readable}
 use Rattle.reader_rules.specs.Promise.{At, Lower}
 use Rattle.reader_rules.specs.Tree.{Paragraph, given, axiomatic, schema, abbreviation, constraint, document}
 use Rattle.reader_rules.specs.Decode.{Node, makers, make_at, node_at, expr_at, pred_at, text_at, schema_at, paragraph_at, paragraphs_from, tree_of}

@@ -1,25 +1,24 @@
 -- Findings 11 to 15, at a node (document 01, "Finding numbers").
-use Rattle.std.specs.Prelude.{ℕ, zero, suc, ◌-◌, List, Bool, true, ◌&&◌, cond, length, get_or, leb, ltb, eqb}
+use Rattle.std.specs.Prelude.{ℕ, zero, suc, ◌-◌, List, Ok, Err, Bool, true, ◌&&◌, cond, length, get_or, leb, ltb, eqb}
 use Rattle.words.specs.Loops.{every}
 use Rattle.layout.specs.Layout.{count, part}
 use Rattle.reader_rules.specs.Kinds.{listed, sort_at, count_ok, plain_ok, of_sort, is_node_sort}
 use Rattle.reader_rules.specs.Nodes.{kind_at, uses}
-use Rattle.reader_rules.specs.declared.Reading.{Reading}
-use Rattle.reader_rules.specs.declared.Reading.TheVariants.{Readable, Refused}
+use Rattle.reader_rules.specs.Refusals.{Finding, Readable, Refused}
 
 -- the first of the m nodes from k on at which f gives a number other than 0
-abbrev pub found : ℕ → ℕ → Reading → Reading
+abbrev pub found : ℕ → ℕ → Finding → Finding
 found zero k r = r
 found (suc n) k r = Refused (suc n) k
 
-unfoldable pub scan : (ℕ → ℕ) → ℕ → ℕ → Reading
+unfoldable pub scan : (ℕ → ℕ) → ℕ → ℕ → Finding
 scan f k zero = Readable
 scan f k (suc m) = found (f k) k (scan f (suc k) m)
 
 -- the second finding where the first is none
-abbrev pub and_then : Reading → Reading → Reading
-and_then Readable r = r
-and_then (Refused n p) r = Refused n p
+abbrev pub and_then : Finding → Finding → Finding
+and_then (Ok x) r = r
+and_then (Err e) r = Err e
 
 -- 13: plain word i of the node whose words are w
 abbrev pub plain_at : List ℕ → ℕ → Bool

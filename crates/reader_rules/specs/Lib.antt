@@ -1,3 +1,4 @@
+pub mod Refusals
 pub mod Identifiers
 pub mod Kinds
 pub mod Nodes

@@ -5,7 +5,7 @@ use Rattle.layout.specs.Layout.{count}
 use Rattle.reader_rules.specs.Kinds.{of_sort}
 use Rattle.reader_rules.specs.Nodes.{kind_at, children}
 use Rattle.reader_rules.specs.Reading.{read_of}
-use Rattle.reader_rules.specs.declared.Reading.TheVariants.{Readable}
+use Rattle.reader_rules.specs.Refusals.{Readable}
 
 -- k is a node of a readable document, of a kind of sort s
 pub record At (doc : List ℕ) (s k : ℕ) : Type 0 where

@@ -5,13 +5,12 @@ use Rattle.reader_rules.specs.Nodes.{document_form}
 use Rattle.reader_rules.specs.Findings.{scan, and_then, node_number, use_number}
 use Rattle.reader_rules.specs.Repeats.{repeat_number}
 use Rattle.reader_rules.specs.Limits.{limit_number}
-use Rattle.reader_rules.specs.declared.Reading.{Reading}
-use Rattle.reader_rules.specs.declared.Reading.TheVariants.{Refused}
+use Rattle.reader_rules.specs.Refusals.{Finding, Refused}
 
-abbrev pub lowest : List ℕ → (ℕ → ℕ) → Reading
+abbrev pub lowest : List ℕ → (ℕ → ℕ) → Finding
 lowest doc f = scan f 1 (count doc)
 
-unfoldable pub read_of : List ℕ → Reading
+unfoldable pub read_of : List ℕ → Finding
 read_of doc =
     cond (laid_out document_form doc)
     (and_then (lowest doc (node_number doc))

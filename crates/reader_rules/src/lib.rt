@@ -1,9 +1,17 @@
 // Coded documents: what they are and which findings reading gives. The definitions are in specs/; the code that is proved against them stands in the crates reader_nodes, reader_repeats and reader.
 #![tactic(auto)]
 
-// The finding of reading a document. The numbers are document 01's, 11 to 17; a place is a node, or 0 for the layout.
-#[derive(Clone, Copy)]
-pub enum Reading {
-    Readable,
-    Refused { number: u32, place: u32 },
+use std::fmt;
+
+// Why words are refused: the number of the finding (crate `codes`), and the node, entry or paragraph that it is at, or 0.
+#[derive(Clone, Copy, PartialEq, Eq)]
+pub struct Refusal {
+    pub number: u32,
+    pub place: u32,
+}
+
+impl fmt::Display for Refusal {
+    fn fmt<W: fmt::Write>(&self, f: &mut fmt::Formatter<W>) -> fmt::Result {
+        write!(f, "refused {} at {}", self.number, self.place)
+    }
 }

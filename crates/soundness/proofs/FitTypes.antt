@@ -9,7 +9,7 @@ use native.Mathlib.Decide.{dec_lt}
 use lib.ListN.{length}
 use Rattle.layout.specs.Layout.{part}
 use Rattle.reader_rules.specs.Decode.{tree_of}
-use Rattle.reader_rules.specs.declared.Reading.TheVariants.{Readable, Refused}
+use Rattle.reader_rules.specs.Refusals.{Readable, Refused}
 use Rattle.values.specs.Typed.{is_of}
 use Rattle.types_rules.specs.Types.{Ty}
 use Rattle.checker_rules.specs.Dictionary.{Dictionary, of_global, name_in}

@@ -7,12 +7,12 @@ use lib.ListN.{length}
 use Rattle.checker_rules.specs.Dictionary.{Dictionary}
 use Rattle.checker_rules.specs.Check.{Answer, accepted, refused, check_of}
 use Rattle.checker_rules.specs.Areas.{answer_finding}
-use Rattle.checker_rules.specs.declared.Finding.TheVariants.{Accepted}
+use Rattle.reader_rules.specs.Refusals.{Accepted}
+use Rattle.evaluator_rules.specs.Endings.{RunFinding}
 use Rattle.fitter_rules.specs.Fit.{fit_of}
 use Rattle.evaluator_rules.specs.Run.{ran, run_of}
 use Rattle.evaluator_rules.specs.ListingRun.{Lists}
 use Rattle.evaluator_rules.proofs.WholeList.{run_lists}
-use Rattle.evaluator_rules.specs.declared.Finding.{Finding}
 use Rattle.evaluator.specs.RunCall.{RunCall}
 use Rattle.soundness.specs.Demand.{Sound}
 use Rattle.soundness.proofs.Demand.{demand_three, fit_sound}
@@ -28,11 +28,11 @@ unfolding answer_finding
 accepting (accepted E) e = record { dictionary = E; answer = refl }
 accepting (refused n p) e = let z : ◌≡◌ {A = ℕ} 0 1 = cc in absurd (omega arith)
 
-call_sound : {doc state before after : List ℕ} {r : Finding} → RunCall doc state before after r → Sound doc (run_of doc state (length before)) → SoundCall doc state before r
+call_sound : {doc state before after : List ℕ} {r : RunFinding} → RunCall doc state before after r → Sound doc (run_of doc state (length before)) → SoundCall doc state before r
 call_sound {doc} {state} {before} c s = record {
   no_misfit = λ node e. s.no_misfit node (sym c.finding ∙ e);
   list = (run_of doc state (length before)).list;
-  given = subst (λ (f : Finding). Lists doc state (length before) (ran f (run_of doc state (length before)).list)) (sym c.finding) (run_lists doc state (length before));
+  given = subst (λ (f : RunFinding). Lists doc state (length before) (ran f (run_of doc state (length before)).list)) (sym c.finding) (run_lists doc state (length before));
   listed = s.listed;
 }
 

@@ -1,24 +1,25 @@
 -- The names of a readable document, line by line and paragraph by paragraph: how many, and what they put into the table.
 use mathlib.Core.Path.{◌≡◌, refl, sym, ap, ◌∙◌}
-use mathlib.Core.Bool.{Bool, true, false, cond}
+use mathlib.Core.Bool.{Bool, true, false}
 use mathlib.Core.Logic.{⊎_elim}
 use mathlib.Core.List.{List, [], ◌∷◌, ◌++◌}
-use Prim.Native.Nat.{ℕ, zero, suc, ◌+◌, ◌-◌, ◌≤◌, ◌<◌}
+use Prim.Native.Nat.{ℕ, suc, ◌+◌, ◌-◌, ◌≤◌, ◌<◌}
 use native.Mathlib.Omega.{arith}
 use native.Mathlib.Nat.{eq-or-lt_of_le}
-use lib.Dec.{eqb, leb, ltb}
+use lib.Dec.{leb, ltb}
 use lib.ListN.{length, get_or, drop, length-append, length-drop}
+use lib.Seq.{get_or-drop}
 use borrow.Author.Tests.{ltb-true}
 use Rattle.words.proofs.Loops.{and_left, and_right}
 use Rattle.words.proofs.Lists.{drop_next, drop_done}
 use Rattle.layout.specs.Layout.{count, part}
 use Rattle.reader_rules.specs.Kinds.{cell, count_row, texts, lines, paragraphs}
 use Rattle.reader_rules.specs.Nodes.{kind_at, operand_at}
-use Rattle.reader_rules.specs.Promise.{At, Lower}
+use Rattle.reader_rules.specs.Promise.{At}
 use Rattle.reader_rules.specs.Reading.{read_of}
-use Rattle.reader_rules.specs.declared.Reading.TheVariants.{Readable}
-use Rattle.reader_rules.specs.Tree.{Lines, end, declaration, inclusion, Paragraph, document}
-use Rattle.reader_rules.specs.Decode.{expr_at, line_at, text_at, lines_from, paragraph_at, paragraphs_from, tree_of}
+use Rattle.reader_rules.specs.Refusals.{Readable}
+use Rattle.reader_rules.specs.Tree.{Lines, end, declaration, inclusion}
+use Rattle.reader_rules.specs.Decode.{line_at, lines_from, paragraph_at, paragraphs_from, tree_of}
 use Rattle.reader_rules.proofs.Accepted.{readable, last_document, some_words}
 use Rattle.reader_rules.proofs.TreeCounts.{at_least, at_most}
 use Rattle.reader_rules.proofs.TreeText.{line_range, line_declaration, line_inclusion, text_kind, text_law}
@@ -31,6 +32,20 @@ pub as_length : (b : Bool) (xs : List ℕ) → length (names_as b xs) ≡ length
 unfolding names_as
 as_length b [] = refl
 as_length b (x ∷ xs) = ap suc (as_length b xs)
+
+-- ---- the operands of a node from the n-th on, as a part of its words
+module _ (doc : List ℕ) (k n : ℕ) (u : List ℕ) (e : u ≡ drop n (part doc k)) where
+  pub tail_length : length u ≡ length (part doc k) - n
+  tail_length = ap length e ∙ length-drop n (part doc k)
+
+  pub tail_inside : (j : ℕ) → j < length u → n + j < length (part doc k)
+  tail_inside j l = omega (arith, tail_length)
+
+  pub tail_past : (j : ℕ) → length u ≤ j → length (part doc k) ≤ n + j
+  tail_past j l = omega (arith, tail_length)
+
+  pub tail_operand : (j : ℕ) → get_or u j 0 ≡ operand_at doc k (n + j)
+  tail_operand j = ap (λ (w : List ℕ). get_or w j 0) e ∙ get_or-drop n (part doc k) j 0
 
 -- ---- lines
 module _ (doc : List ℕ) (k : ℕ) (h : At doc lines k) where

@@ -1,6 +1,6 @@
 -- What the table says of each entry: which are givens', and each given's size. So finding 41 by the table is finding 41 by the names.
 use mathlib.Core.Path.{◌≡◌, refl, sym, ap, fun_ext, ◌∙◌}
-use mathlib.Core.Bool.{Bool, true, false, cond, ◌&&◌, false≢true}
+use mathlib.Core.Bool.{Bool, true, false, cond, false≢true}
 use mathlib.Core.Logic.{⊎_elim}
 use mathlib.Core.List.{List, [], ◌∷◌, ◌++◌, append_assoc}
 use Prim.Native.Nat.{ℕ, zero, suc, ◌+◌, ◌*◌, ◌-◌, ◌/◌, ◌≤◌, ◌<◌}
@@ -11,7 +11,7 @@ use lib.Dec.{eqb, leb}
 use lib.ListN.{length, get_or, drop, set, replicate, length-append}
 use lib.Seq.{set_at}
 use borrow.Author.Tests.{eq-eqb, ne_eqb, eqb-true, leb-true}
-use Rattle.words.proofs.Loops.{and_left, and_right}
+use Rattle.words.proofs.Loops.{and_left}
 use Rattle.layout.specs.Layout.{count, laid_out, part}
 use Rattle.layout.proofs.Laws.{laid}
 use Rattle.reader_rules.specs.Identifiers.{name_of, is_identifier}
@@ -20,8 +20,7 @@ use Rattle.reader_rules.specs.Nodes.{kind_at, operand_at}
 use Rattle.reader_rules.specs.Findings.{found, scan, and_then}
 use Rattle.reader_rules.specs.Promise.{At}
 use Rattle.reader_rules.specs.Reading.{read_of}
-use Rattle.reader_rules.specs.declared.Reading.{Reading}
-use Rattle.reader_rules.specs.declared.Reading.TheVariants.{Readable, Refused}
+use Rattle.reader_rules.specs.Refusals.{Readable, Refused}
 use Rattle.reader_rules.specs.Tree.{Lines, end, declaration, inclusion}
 use Rattle.reader_rules.specs.Decode.{gather, paragraph_at, paragraphs_from, tree_of}
 use Rattle.reader_rules.proofs.Operands.{cond_same, sort_row_lem}

@@ -6,7 +6,7 @@ ghost use Rattle.states.specs.Table.{given_by, value_by, number_by};
 
 use codes::{findings, limits};
 use layout::part;
-use reader_rules::Reading;
+use reader_rules::Refusal;
 use values_forms::form::is_value;
 use words::word;
 
@@ -62,35 +62,27 @@ fn number_by(table: &[u32], state: &[u32], k: usize, given: bool) -> u32
 }
 
 // The first ill-formed entry among the givens', or among the others.
-fn first_ill(table: &[u32], state: &[u32], n: usize, given: bool) -> Reading
+fn first_ill(table: &[u32], state: &[u32], n: usize, given: bool) -> Result<(), Refusal>
     requires { n ≤ 1024 }
     ensures { result ≡ scan (number_by given table.now state.now) 1 n }
 {
-    let mut k = 1;
-    while k < n + 1 {
+    for k in 1..n + 1 {
         let number = number_by(table, state, k, given);
         if number != 0 {
-            return Reading::Refused {
+            return Err(Refusal {
                 number: number,
                 place: k as u32,
-            };
+            });
         }
-        k += 1;
     }
-    Reading::Readable
+    Ok(())
 }
 
 // The first entry that is ill formed, Given entries first.
-pub fn first_ill_entry(table: &[u32], state: &[u32], n: usize) -> Reading
+pub fn first_ill_entry(table: &[u32], state: &[u32], n: usize) -> Result<(), Refusal>
     requires { n ≤ 1024 }
     ensures { result ≡ and_then (scan (given_by table.now state.now) 1 n) (scan (value_by table.now state.now) 1 n) }
 {
-    let first = first_ill(table, state, n, true);
-    match first {
-        Reading::Readable => first_ill(table, state, n, false),
-        Reading::Refused { number, place } => Reading::Refused {
-            number: number,
-            place: place,
-        },
-    }
+    first_ill(table, state, n, true)?;
+    first_ill(table, state, n, false)
 }

@@ -3,7 +3,7 @@
 
 use codes::{findings, limits};
 use layout::Form;
-use reader_rules::Reading;
+use reader_rules::Refusal;
 use words::word;
 
 mod entries;
@@ -13,12 +13,12 @@ pub mod places;
 ghost use Rattle.std.specs.Prelude.{◌≡◌};
 ghost use Rattle.reader_rules.specs.Reading.{read_of};
 ghost use Rattle.reader_rules.specs.Decode.{tree_of};
-ghost use Rattle.reader_rules.specs.declared.Reading.TheVariants.{Readable};
+ghost use Rattle.reader_rules.specs.Refusals.{Readable};
 ghost use Rattle.states_rules.specs.Names.{document_names};
 ghost use Rattle.states_rules.specs.States.{state_of, state_check_of};
 
 // Finding 41 of a state for a readable document. A state has at most 1,024 entries, so where there are more names their pairs are not needed.
-pub fn first_ill_formed(doc: &[u32], state: &[u32]) -> Reading
+pub fn first_ill_formed(doc: &[u32], state: &[u32]) -> Result<(), Refusal>
     requires { read_of doc.now ≡ Readable }
     ensures { result ≡ state_of (document_names (tree_of doc.now)) state.now }
 {
@@ -34,27 +34,21 @@ pub fn first_ill_formed(doc: &[u32], state: &[u32]) -> Reading
         if word(state, 0) == n {
             return entries::first_ill_entry(&table, state, n);
         }
-        return Reading::Refused {
+        return Err(Refusal {
             number: findings::ILL_FORMED,
             place: 0,
-        };
+        });
     }
-    Reading::Refused {
+    Err(Refusal {
         number: findings::ILL_FORMED,
         place: 0,
-    }
+    })
 }
 
 // The finding of a document with a state: reading's, else 41 with its place.
-pub fn check_state(doc: &[u32], state: &[u32]) -> Reading
+pub fn check_state(doc: &[u32], state: &[u32]) -> Result<(), Refusal>
     ensures { result ≡ state_check_of doc.now state.now }
 {
-    let first = reader::read(doc);
-    match first {
-        Reading::Readable => first_ill_formed(doc, state),
-        Reading::Refused { number, place } => Reading::Refused {
-            number: number,
-            place: place,
-        },
-    }
+    reader::read(doc)?;
+    first_ill_formed(doc, state)
 }

@@ -5,14 +5,14 @@ ghost use Rattle.reader_rules.specs.Kinds.{texts, lines, paragraphs};
 ghost use Rattle.reader_rules.specs.Promise.{At};
 ghost use Rattle.reader_rules.specs.Reading.{read_of};
 ghost use Rattle.reader_rules.specs.Decode.{lines_from, paragraph_at, tree_of};
-ghost use Rattle.reader_rules.specs.declared.Reading.TheVariants.{Readable};
+ghost use Rattle.reader_rules.specs.Refusals.{Readable};
 ghost use Rattle.states_rules.specs.Names.{names_as, line_names, paragraph_names, document_names};
 ghost use Rattle.states.specs.Table.{put_pair, put_names, line_count};
 
 use codes::{kinds, limits};
 use layout::part;
 use reader_nodes::nodes::{kind_at, operand};
-use words::{store, word};
+use words::{from, store, word};
 
 // The words of the table of names: for each entry of a state, from 1 on, its given and the size of that; a pair of zeros where the name is no given.
 pub const TABLE_WORDS: usize = 2 * (limits::NODES + 1);
@@ -34,12 +34,10 @@ pub fn text_count(doc: &[u32], t: usize) -> usize
     requires { At doc.now texts t }
     ensures { (result ≡ length (line_names (lines_from doc.now t 2 (length (part doc.now t) - 2)))) × (result ≤ 64) }
 {
-    let e = part(doc, t).len();
+    let lines = from(part(doc, t), 2);
     let mut n = 0;
-    let mut i = 2;
-    while i < e {
-        n += line_count(doc, operand(doc, t, i));
-        i += 1;
+    for line in lines {
+        n += line_count(doc, *line as usize);
     }
     n
 }
@@ -73,11 +71,8 @@ fn put_given(w: &[u32], state: &[u32], n: usize, table: &mut [u32])
     requires { (n < 2 ^ 16) × (length w.now ≤ 256) }
     ensures { table.new ≡ put_names (names_as true (drop 1 w.now)) state.now (n + 1) table.old }
 {
-    let e = w.len();
-    let mut i = 1;
-    while i < e {
+    for i in 1..w.len() {
         put_pair(w, i, state, n + i, table);
-        i += 1;
     }
 }
 
@@ -103,13 +98,10 @@ pub fn put_names(doc: &[u32], state: &[u32], table: &mut [u32]) -> usize
     requires { read_of doc.now ≡ Readable }
     ensures { (result ≡ length (document_names (tree_of doc.now))) × (table.new ≡ put_names (document_names (tree_of doc.now)) state.now 1 table.old) }
 {
-    let d = word(doc, 0);
-    let e = part(doc, d).len();
+    let paragraphs = from(part(doc, word(doc, 0)), 1);
     let mut n = 0;
-    let mut i = 1;
-    while i < e {
-        n = put_paragraph(doc, operand(doc, d, i), state, n, table);
-        i += 1;
+    for p in paragraphs {
+        n = put_paragraph(doc, *p as usize, state, n, table);
     }
     n
 }

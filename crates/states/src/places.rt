@@ -5,7 +5,7 @@ ghost use Rattle.reader_rules.specs.Kinds.{texts, lines, paragraphs};
 ghost use Rattle.reader_rules.specs.Promise.{At};
 ghost use Rattle.reader_rules.specs.Reading.{read_of};
 ghost use Rattle.reader_rules.specs.Decode.{lines_from, paragraph_at, tree_of};
-ghost use Rattle.reader_rules.specs.declared.Reading.TheVariants.{Readable};
+ghost use Rattle.reader_rules.specs.Refusals.{Readable};
 ghost use Rattle.states_rules.specs.Names.{names_as, line_names, paragraph_names, document_names};
 ghost use Rattle.states_rules.specs.States.{entry_from};
 ghost use Rattle.states.specs.Table.{line_place};
@@ -14,7 +14,7 @@ use crate::names::{line_count, paragraph_count};
 use codes::kinds;
 use layout::part;
 use reader_nodes::nodes::{kind_at, operand};
-use words::word;
+use words::{from, word};
 
 // The entry of a name among the words from `from` on, the first of which has entry k; 0 for none. `true` stands for givens and others alike: the place is
 // the same.
@@ -22,15 +22,11 @@ fn place_in(w: &[u32], from: usize, k: usize, name: usize) -> usize
     requires { (k < 2 ^ 16) × (length w.now ≤ 256) }
     ensures { result ≡ entry_from (names_as true (drop from w.now)) name k }
 {
-    let e = w.len();
-    let mut i = from;
-    let mut at = k;
-    while i < e {
-        if word(w, i) == name {
-            return at;
+    let names = words::from(w, from);
+    for (i, x) in names.iter().enumerate() {
+        if *x as usize == name {
+            return k + i;
         }
-        i += 1;
-        at += 1;
     }
     0
 }
@@ -52,17 +48,15 @@ fn place_in_text(doc: &[u32], t: usize, k: usize, name: usize) -> usize
     requires { At doc.now texts t × (1 ≤ k) × (k < 2 ^ 15) }
     ensures { result ≡ entry_from (line_names (lines_from doc.now t 2 (length (part doc.now t) - 2))) name k }
 {
-    let e = part(doc, t).len();
+    let lines = from(part(doc, t), 2);
     let mut at = k;
-    let mut i = 2;
-    while i < e {
-        let v = operand(doc, t, i);
+    for line in lines {
+        let v = *line as usize;
         let r = place_in_line(doc, v, at, name);
         if r != 0 {
             return r;
         }
         at += line_count(doc, v);
-        i += 1;
     }
     0
 }
@@ -87,18 +81,15 @@ pub fn place_of(doc: &[u32], name: usize) -> usize
     requires { read_of doc.now ≡ Readable }
     ensures { result ≡ entry_from (document_names (tree_of doc.now)) name 1 }
 {
-    let d = word(doc, 0);
-    let e = part(doc, d).len();
+    let paragraphs = from(part(doc, word(doc, 0)), 1);
     let mut at = 1;
-    let mut i = 1;
-    while i < e {
-        let p = operand(doc, d, i);
+    for paragraph in paragraphs {
+        let p = *paragraph as usize;
         let r = place_in_paragraph(doc, p, at, name);
         if r != 0 {
             return r;
         }
         at += paragraph_count(doc, p);
-        i += 1;
     }
     0
 }

@@ -6,8 +6,7 @@ use Rattle.reader_rules.specs.Nodes.{document_words}
 use Rattle.reader_rules.specs.Findings.{scan, and_then}
 use Rattle.reader_rules.specs.Reading.{read_of}
 use Rattle.reader_rules.specs.Decode.{tree_of}
-use Rattle.reader_rules.specs.declared.Reading.{Reading}
-use Rattle.reader_rules.specs.declared.Reading.TheVariants.{Readable, Refused}
+use Rattle.reader_rules.specs.Refusals.{Finding, Readable, Refused}
 use Rattle.values.specs.Value.{Value}
 use Rattle.values.specs.Form.{is_value}
 use Rattle.values.specs.Givens.{elements, size_of}
@@ -48,14 +47,14 @@ unfoldable pub is_paired : List Name → List ℕ → Bool
 is_paired ns state = laid_out state_form state && eqb (count state) (length ns)
 
 -- 41 at 0 for count and pairs; then all Given entries, then the others, each in entry order (R20)
-unfoldable pub entries_of : List Name → List ℕ → Reading
+unfoldable pub entries_of : List Name → List ℕ → Finding
 entries_of ns state = and_then (scan (given_number ns state) 1 (length ns)) (scan (value_number ns state) 1 (length ns))
 
-unfoldable pub state_if : Bool → List Name → List ℕ → Reading
+unfoldable pub state_if : Bool → List Name → List ℕ → Finding
 state_if true ns state = entries_of ns state
 state_if false ns state = Refused 41 0
 
-unfoldable pub state_of : List Name → List ℕ → Reading
+unfoldable pub state_of : List Name → List ℕ → Finding
 state_of ns state = state_if (is_paired ns state) ns state
 
 -- What a well-formed state says: the value of each name. Names are distinct in a readable document (finding 16).
@@ -76,5 +75,5 @@ unfoldable pub value_in : List Name → List ℕ → State
 value_in ns state i = let k = entry_from ns i 1 in entry_value (sizes_in ns state) (name_at ns k) (part state k)
 
 -- The finding of a document with a state: reading's first, then 41 by the names of the document.
-unfoldable pub state_check_of : List ℕ → List ℕ → Reading
+unfoldable pub state_check_of : List ℕ → List ℕ → Finding
 state_check_of doc state = and_then (read_of doc) (state_of (document_names (tree_of doc)) state)

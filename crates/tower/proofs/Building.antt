@@ -3,7 +3,7 @@ use mathlib.Core.Path.{◌≡◌, refl, sym, ap, subst, ◌∙◌}
 use mathlib.Core.Bool.{Bool, true}
 use mathlib.Core.List.{List}
 use mathlib.Core.Logic.{⊎_elim}
-use Prim.Native.Nat.{ℕ, zero, suc, ◌+◌, ◌*◌, ◌-◌, ◌≤◌, ◌<◌, ◌^◌}
+use Prim.Native.Nat.{ℕ, suc, ◌+◌, ◌*◌, ◌-◌, ◌≤◌, ◌<◌, ◌^◌}
 use native.Mathlib.Omega.{arith}
 use native.Mathlib.Nat.{eq-or-lt_of_le, suc-mul, zero-mul}
 use lib.ListN.{length, get_or}
@@ -17,7 +17,7 @@ use Rattle.types_solver.proofs.Accepted.{start, same_pinned}
 use Rattle.types_cells.proofs.Words.{run_at, run_length, frozen_length, in_get_d}
 use Rattle.types_cells.proofs.Growing.{made_load, made_above}
 use Rattle.types_solver.proofs.Extending.{added_builds, added_load, added_other, added_here, made_grows}
-use Rattle.tower.specs.Ready.{TowerReady, Row, Rowing, Rowed, TowerRoom, Built, Forming, Applying, Applied, Towering, Towered}
+use Rattle.tower.specs.Ready.{TowerReady, Row, Rowing, Rowed, TowerRoom, Built, Forming, Applying, Applied}
 
 -- An area with no cells.
 pub ready_start : (s d : List ℕ) → length s ≡ area_size → TowerReady s d 0 first_run 0
@@ -150,9 +150,6 @@ module _ (s t : List ℕ) (n top first step m x j : ℕ) (W : Rowing s n top fir
   pub row_cell : x < n
   row_cell = let r = W.row j l in let e = T.at in omega arith
 
-  pub row_few : n ≤ max_cells
-  row_few = W.ready.solved.held.few
-
   pub row_adding : Adding t n (top + j)
   row_adding = let r = W.room in adding t W.d n (top + j) (W.k + j) (T.ready W.d W.k W.ready) (omega arith)
 
@@ -165,9 +162,6 @@ module _ (s t : List ℕ) (n top first step m x j : ℕ) (W : Rowing s n top fir
         (ready_add t u d n (top + j) (k + j) x (T.ready d k R) (omega arith) row_cell N);
   }
 
-pub row_size : (s t : List ℕ) (n top first step m x j : ℕ) → Rowing s n top first step m → RowTo s t n top first step x j → length t ≡ length s
-row_size s t n top first step m x j W T = (T.ready W.d W.k W.ready).solved.held.size ∙ sym W.ready.solved.held.size
-
 pub row_end : (s t : List ℕ) (n top first step m x j : ℕ) → RowTo s t n top first step x j → j ≡ m → Rowed s t n top m
 row_end s t n top first step m x j T e d k R = ready_as t d n n (top + j) (top + m) (k + j) (k + m) refl (omega arith) (omega arith) (T.ready d k R)
 
@@ -179,9 +173,6 @@ merged_as s t d x y a b e M = subst (λ z. Merged s t d x y z) e M
 
 -- A cell over a row.
 module _ (s : List ℕ) (n top t a first step m : ℕ) (F : Forming s n top t a first step m) where
-  pub forming_row : Rowing s n top first step m
-  forming_row = record { d = F.room.d; k = 0; ready = F.room.ready; row = F.row; short = F.short; room = let z = F.room.words in omega arith }
-
   rowed_as : (u d : List ℕ) → Rowed s u n top m → TowerReady s d n top 0 → TowerReady u d n (top + m) m
   rowed_as u d W R = ready_as u d n n (top + m) (top + m) (0 + m) m refl refl (omega arith) (W d 0 R)
 
@@ -194,14 +185,7 @@ module _ (s : List ℕ) (n top t a first step m : ℕ) (F : Forming s n top t a 
   pub formed : (u v : List ℕ) → Rowed s u n top m → Made u v n t a top m → Built s v n top 1 m
   formed u v W N d R = ready_make u v d n top t a m (rowed_as u d W R) F.tags (forming_cell u W) N
 
--- A store keeps its length.
-pub built_size : (s t : List ℕ) (n top c m : ℕ) → (W : TowerRoom s n top c m) → (c' m' : ℕ) → Built s t n top c' m' → length t ≡ length s
-built_size s t n top c m W c' m' B = (B W.d W.ready).solved.held.size ∙ sym W.ready.solved.held.size
-
 -- Room for the rest of what is built, and what was built in all.
-pub room_part : (s : List ℕ) (n top c m c₁ m₁ : ℕ) → TowerRoom s n top c m → c₁ ≤ c → m₁ ≤ m → TowerRoom s n top c₁ m₁
-room_part s n top c m c₁ m₁ W p q = record { d = W.d; ready = W.ready; cells = let z = W.cells in omega arith; words = let z = W.words in omega arith }
-
 pub room_after : (s t : List ℕ) (n top c m c₀ m₀ n' top' c₁ m₁ : ℕ) → TowerRoom s n top c m → Built s t n top c₀ m₀ → n' ≡ n + c₀ → top' ≡ top + m₀ → c₀ + c₁ ≤ c → m₀ + m₁ ≤ m → TowerRoom t n' top' c₁ m₁
 room_after s t n top c m c₀ m₀ n' top' c₁ m₁ W B en et p q = record {
   d = W.d;
@@ -251,12 +235,6 @@ form_power s n top x W l = record {
   products = λ q. absurd (omega arith);
 }
 
--- Two cells, x and y.
-pub pair_row : (n x y : ℕ) → x < y → y < n → Row n x (y - x) 2
-pair_row n x y l m zero q = let z = zero-mul (y - x) in omega arith
-pair_row n x y l m (suc zero) q = let z = suc-mul 0 (y - x) in let v = zero-mul (y - x) in omega arith
-pair_row n x y l m (suc (suc j)) q = absurd (omega arith)
-
 -- A level: f's type, the type for its argument, and the merge.
 module _ (s d : List ℕ) (n top x : ℕ) (A : Applying s d n top x) where
   pub level_room : TowerRoom s n top 11 34
@@ -286,23 +264,3 @@ levels_start s t d e B = record {
   words = omega arith;
   made = omega arith;
 }
-
-pub levels_applying : (s d t : List ℕ) (n top x i start levels : ℕ) → Levels s d n top x i → i < levels → Towering t d start levels → Applying s d n top x
-levels_applying s d t n top x i start levels Y l T = record {
-  ready = Y.ready;
-  cells = let z = Y.cells in let m = T.within in omega arith;
-  words = let z = Y.cells in let y = Y.words in let m = T.within in omega arith;
-  made = Y.made;
-  few = T.few;
-}
-
-pub levels_step : (s t d : List ℕ) (n top x i : ℕ) (b : Bool) → Levels s d n top x i → b ≡ true → Applied s t d n top b → Levels t d (n + 11) (top + 34) (n + 8) (i + 1)
-levels_step s t d n top x i b Y e A = record {
-  ready = A e Y.ready;
-  cells = let z = Y.cells in omega arith;
-  words = let z = Y.words in omega arith;
-  made = omega arith;
-}
-
-pub levels_end : (s d : List ℕ) (n top x i levels : ℕ) (b : Bool) → Levels s d n top x i → i ≡ levels → Towered s d levels b
-levels_end s d n top x i levels b Y e q = ready_as s d n (1 + 11 * levels) top (first_run + 34 * levels) 0 0 (let z = Y.cells in omega arith) (let z = Y.words in omega arith) refl Y.ready

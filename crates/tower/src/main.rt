@@ -40,11 +40,11 @@ const POWER: u32 = type_tags::POWER as u32;
 
 const PRODUCT: u32 = type_tags::PRODUCT as u32;
 
-#[derive(Drop)]
-enum Outcome {
+// Why the solver has no size to tell.
+#[derive(Clone, Copy)]
+enum Unsolved {
     Clash,
     Cycle,
-    Solved { size: usize },
 }
 
 // The m cells from `first` on, each `step` after the one before, as parts of cell n.
@@ -53,11 +53,9 @@ fn row(a: &mut [u32], n: usize, top: usize, first: usize, step: usize, m: usize)
     ensures { Rowed a.old a.new n top m }
 {
     let mut x = first;
-    let mut j = 0;
-    while j < m {
+    for j in 0..m {
         types_cells::growth::add_word(a, n, top + j, x as u32);
         x += step;
-        j += 1;
     }
 }
 
@@ -114,15 +112,14 @@ fn level(a: &mut [u32], d: &[u32], n: usize, top: usize, x: usize) -> bool
     types_unifier::unification::merge(a, d, n + LAST_GENERIC, n + LAST_APPLIED)
 }
 
-// What the solver says of cell x of the n cells.
-fn ask(a: &mut [u32], d: &[u32], n: usize, x: usize) -> Outcome
+// What the solver says of cell x of the n cells: the size of its type.
+fn ask(a: &mut [u32], d: &[u32], n: usize, x: usize) -> Result<usize, Unsolved>
     requires { Asked a.old d.now n x }
 {
     if types_solver::acyclicity::finite(a, n) {
-        let size = types_solver::sizes::cell_size(a, d, x);
-        return Outcome::Solved { size: size };
+        return Ok(types_solver::sizes::cell_size(a, d, x));
     }
-    Outcome::Cycle
+    Err(Unsolved::Cycle)
 }
 
 // The levels over the type of cell 0, ℤ or an unknown. The last one's type is the third cell from the end.
@@ -131,16 +128,12 @@ fn build(a: &mut [u32], d: &[u32], start: u32, levels: usize) -> bool
     ensures { Towered a.new d.now levels result }
 {
     former(a, 0, FIRST_RUN, start, 0, 0, 0, 0);
-    let mut n = 1;
-    let mut top = FIRST_RUN;
     let mut x = 0;
-    let mut i = 0;
-    while i < levels {
+    for i in 0..levels {
+        let n = 1 + CELLS * i;
+        let top = FIRST_RUN + PARTS * i;
         if level(a, d, n, top, x) {
             x = n + GENERIC;
-            n += CELLS;
-            top += PARTS;
-            i += 1;
         } else {
             return false;
         }
@@ -149,7 +142,7 @@ fn build(a: &mut [u32], d: &[u32], start: u32, levels: usize) -> bool
 }
 
 // The tower; with a tie, its type is to be that of its own number.
-fn tower(a: &mut [u32], d: &[u32], start: u32, levels: usize, tie: bool) -> Outcome
+fn tower(a: &mut [u32], d: &[u32], start: u32, levels: usize, tie: bool) -> Result<usize, Unsolved>
     requires { Towering a.old d.now start levels }
 {
     if build(a, d, start, levels) {
@@ -159,18 +152,18 @@ fn tower(a: &mut [u32], d: &[u32], start: u32, levels: usize, tie: bool) -> Outc
             if types_unifier::unification::merge(a, d, 0, x) {
                 return ask(a, d, n, x);
             }
-            return Outcome::Clash;
+            return Err(Unsolved::Clash);
         }
         return ask(a, d, n, x);
     }
-    Outcome::Clash
+    Err(Unsolved::Clash)
 }
 
-fn show(rt: &impl Print, outcome: Outcome) -> io::Result<()> {
+fn show(rt: &impl Print, outcome: Result<usize, Unsolved>) -> io::Result<()> {
     match outcome {
-        Outcome::Clash => println!(rt; "clash"),
-        Outcome::Cycle => println!(rt; "cycle"),
-        Outcome::Solved { size } => {
+        Err(Unsolved::Clash) => println!(rt; "clash"),
+        Err(Unsolved::Cycle) => println!(rt; "cycle"),
+        Ok(size) => {
             if size < OVER {
                 println!(rt; "solved, size {size}")
             } else {

@@ -1,24 +1,23 @@
 -- New cells beside settled ones, and a settled type as a new cell.
-use mathlib.Core.Path.{◌≡◌, refl, sym, ap, ap₂, subst, ◌∙◌}
-use mathlib.Core.Bool.{Bool, true, false}
-use mathlib.Core.List.{List, [], ◌∷◌, map}
-use mathlib.Core.Logic.{◌⊎◌, inl, inr, ⊎_elim}
-use Prim.Native.Nat.{ℕ, zero, suc, ◌+◌, ◌*◌, ◌-◌, ◌≤◌, ◌<◌}
+use mathlib.Core.Path.{◌≡◌, refl, sym, ap, subst, ◌∙◌}
+use mathlib.Core.Bool.{true}
+use mathlib.Core.List.{List}
+use mathlib.Core.Logic.{⊎_elim}
+use Prim.Native.Nat.{ℕ, suc, ◌+◌, ◌*◌, ◌-◌, ◌≤◌, ◌<◌}
 use native.Mathlib.Omega.{arith}
 use native.Mathlib.Nat.{eq-or-lt_of_le}
-use lib.ListN.{length, get_or, set, take, length-set}
+use lib.ListN.{length, set}
 use lib.Seq.{take-set-le}
-use Rattle.types_rules.specs.Equations.{Pairs, Solves}
 use Rattle.types_rules.specs.Follows.{unk}
 use Rattle.types_rules.specs.Trees.{finite}
 use Rattle.types_rules.specs.Types.{Ty}
 use Rattle.types_cells.specs.Layout.{max_cells, pool_size, links_at, records_at, arguments_at, firsts_at, counts_at, settled_from, first_run, area_size}
-use Rattle.types_cells.specs.Store.{frozen, link_at, tag_at, load, view, view_of, Held, Solved}
-use Rattle.types_cells.specs.Calls.{put, Above, Making, Made}
-use Rattle.types_cells.specs.Settled.{lower, heap, Reads, Readable, word_at, Pinned, Obeys, Fits, Kept, Pinning, Pin, Settling, Entering, Entered}
-use Rattle.types_cells.proofs.Growing.{put_other, put_length, put_0, there, t_at, made, made_above, made_load}
+use Rattle.types_cells.specs.Store.{frozen, tag_at, load, view, view_of, Held}
+use Rattle.types_cells.specs.Calls.{put, Above, Made}
+use Rattle.types_cells.specs.Settled.{lower, heap, Reads, Readable, word_at, Pinned, Obeys, Pin, Settling, Entering, Entered}
+use Rattle.types_cells.proofs.Growing.{put_other, put_0, there, t_at, made_above, made_load}
 use Rattle.types_cells.proofs.Words.{link_new}
-use Rattle.types_cells.proofs.SettlingLaws.{heap_kept, settled, settled_before, settled_type, settled_after, kept_held, solved_kept}
+use Rattle.types_cells.proofs.SettlingLaws.{heap_kept, settled, settled_before, settled_type, settled_after, solved_kept}
 
 -- Where cell n is made, whatever its words.
 module _ (s d : List ℕ) (n t a f c : ℕ) (size : length s ≡ area_size) (l : n < max_cells) where

@@ -1,7 +1,7 @@
 -- One link made straight, to the representative: another history L' of links, with the same representatives.
 use mathlib.Core.Path.{◌≡◌, refl, sym, ap, ap₂, subst, ◌∙◌}
 use mathlib.Core.Bool.{Bool, true, false}
-use mathlib.Core.List.{List, map}
+use mathlib.Core.List.{List}
 use mathlib.Core.Option.{Option, some, none}
 use Prim.Native.Nat.{ℕ, zero, suc, ◌+◌, ◌-◌, ◌≤◌, ◌<◌}
 use native.Mathlib.Omega.{arith}
@@ -10,24 +10,22 @@ use lib.ListN.{length, get_or, set, length-set}
 use lib.Seq.{get_or-set_same, get_or-set_other, take-set-le}
 use borrow.Author.Tests.{eqb-true, eqb-false}
 use Rattle.types_rules.proofs.Closed.{idem, rep_self}
-use Rattle.types_rules.proofs.Find.{hops, next_none, next_some, root_hops}
+use Rattle.types_rules.proofs.Find.{next_none, next_some, root_hops}
 use Rattle.types_rules.proofs.Finite.{sat_by}
 use Rattle.types_rules.proofs.Follows.{rep_follows}
 use Rattle.types_rules.proofs.Rational.{rep_sat}
-use Rattle.types_rules.proofs.Terms.{bool_no}
-use Rattle.types_rules.specs.Classes.{Closed, Shape, Wf, next, rep}
+use Rattle.types_rules.specs.Classes.{Closed, Shape, next, rep}
 use Rattle.types_rules.specs.Equations.{AllP, Pairs, Solves, end, pair}
 use Rattle.types_rules.specs.Follows.{Follows, View}
 use Rattle.types_cells.specs.Layout.{max_cells, max_pending, pool_size, links_at, settled_from, area_size}
-use Rattle.types_cells.specs.Store.{frozen, link_at, link_of, tag_at, view, Cell, load, Both, Held, Solved}
-use Rattle.types_cells.specs.Flat.{Kept, Direct, Refers, Straight}
+use Rattle.types_cells.specs.Store.{frozen, link_at, link_of, tag_at, view, Cell, load, Both, Solved}
+use Rattle.types_cells.specs.Flat.{Kept, Refers, Straight}
 use Rattle.types_rules.specs.Trees.{Extent, Tree}
 use Rattle.types_cells.specs.Settled.{lower, heap, word_at, Reads, Readable, Pinned, ObeysIn}
 use Rattle.types_cells.proofs.SettlingLaws.{heap_kept}
 use Rattle.types_cells.specs.Calls.{Root}
 use Rattle.types_cells.proofs.LinkLaws.{WfN, rep_below}
 use Rattle.types_cells.proofs.Words.{frozen_set, link_new, link_none, link_same}
-use Rattle.types_cells.proofs.Reading.{below_next}
 
 abbrev pick : Bool → ℕ → ℕ → ℕ
 pick true x y = x
@@ -246,16 +244,6 @@ module _ (s : List ℕ) (i r : ℕ) (z : length s ≡ area_size) (f : i < max_ce
     from = λ j v. go_from j v (eqb j i) refl;
   }
 
-pub refers_refl : (s : List ℕ) → Refers s s
-refers_refl s = record { low = refl; to = λ j v. refl; from = λ j v. refl }
-
-pub refers_on : (s t u : List ℕ) → Refers s t → Refers t u → Refers s u
-refers_on s t u a b = record {
-  low = b.low ∙ a.low;
-  to = λ j v. let e = a.to j v in b.to j (omega arith) ∙ e;
-  from = λ j v. let e = b.from j v in e ∙ a.from j (omega arith);
-}
-
 -- Solutions obey the one store where they obey the other.
 module _ (s t d : List ℕ) (n : ℕ) (K : Refers s t) where
   low_heap : heap t d ≡ heap s d
@@ -293,34 +281,3 @@ straightened s n i r z f fr Q d = record {
   roots = λ e. absurd (d e);
   keeps = λ P₀ L X l. straight s n P₀ L X i r l (Q.is n L X.held l) Q.free d;
 }
-
-pub straight_none : (s : List ℕ) (n i : ℕ) → link_at s i ≡ 0 → Straight s s i n
-straight_none s n i e = record {
-  refers = refers_refl s;
-  still = refl;
-  direct = λ j q. absurd (let z = sym e ∙ q in omega arith);
-  others = λ j d. refl;
-  roots = λ q. q;
-  keeps = λ P₀ L X l. record { L' = L; solved = X; same = λ j. refl };
-}
-
-pub direct_next : (s t : List ℕ) (i n : ℕ) → Straight s t i n → ((j : ℕ) → j < i → Direct s j) → (j : ℕ) → j < i + 1 → Direct t j
-direct_next s t i n S h = below_next (λ j. Direct t j) i old S.direct
-  where
-    old : (j : ℕ) → j < i → Direct t j
-    old j l m e =
-        let q : link_at s m ≡ 0 = h j l m (sym (S.others j (λ z. omega arith)) ∙ e) in
-        go (eqb m i) refl q
-      where
-        go : (b : Bool) → eqb m i ≡ b → link_at s m ≡ 0 → link_at t m ≡ 0
-        go true y q = ap (link_at t) (eqb-true m i y) ∙ S.roots (ap (link_at s) (sym (eqb-true m i y)) ∙ q)
-        go false y q = S.others m (eqb-false m i y) ∙ q
-
-pub kept_on : (s t u : List ℕ) (n i : ℕ) → ((P₀ L : Pairs ℕ) → Solved s n P₀ L → Kept t n P₀ L) → Straight t u i n → i < n → (P₀ L : Pairs ℕ) → Solved s n P₀ L → Kept u n P₀ L
-kept_on s t u n i h S l P₀ L X =
-    let K = h P₀ L X in
-    let M = S.keeps P₀ K.L' K.solved l in
-    record { L' = M.L'; solved = M.solved; same = λ j. M.same j ∙ K.same j }
-
-pub kept_start : (s : List ℕ) (n : ℕ) (P₀ L : Pairs ℕ) → Solved s n P₀ L → Kept s n P₀ L
-kept_start s n P₀ L X = record { L' = L; solved = X; same = λ j. refl }

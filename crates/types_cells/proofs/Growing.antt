@@ -1,24 +1,24 @@
 -- New cells, and new words in the runs.
 use mathlib.Core.Path.{◌≡◌, refl, sym, ap, ap₂, subst, ◌∙◌}
 use mathlib.Core.Bool.{Bool, true, false}
-use mathlib.Core.List.{List, [], ◌∷◌}
+use mathlib.Core.List.{List}
 use mathlib.Core.Logic.{◌⊎◌, inl, inr, ⊎_elim}
 use mathlib.Core.Option.{Option, some, none}
-use Prim.Native.Nat.{ℕ, zero, suc, ◌+◌, ◌*◌, ◌-◌, ◌≤◌, ◌<◌}
+use Prim.Native.Nat.{ℕ, zero, suc, ◌+◌, ◌*◌, ◌≤◌, ◌<◌}
 use native.Mathlib.Omega.{arith}
 use native.Mathlib.Nat.{eq-or-lt_of_le}
 use lib.Dec.{eqb, ltb}
 use lib.ListN.{length, get_or, set, length-set}
 use lib.Seq.{get_or-drop, get_or-set_same, get_or-set_other, ext_get_or}
-use borrow.Author.Tests.{eqb-true, eqb-false, lt-ltb, le-ltb, ltb-true, ltb-false}
+use borrow.Author.Tests.{eqb-true, eqb-false, lt-ltb, ltb-true, ltb-false}
 use Rattle.types_rules.proofs.Steps.{closed_grow}
-use Rattle.types_rules.specs.Classes.{Closed, next}
+use Rattle.types_rules.specs.Classes.{next}
 use Rattle.types_rules.specs.Equations.{AllP, In, Pairs, end, pair}
 use Rattle.types_rules.specs.Follows.{Follows, View, matching, reflexive, shape, stated, symmetric, transitive, unk}
 use Rattle.types_rules.specs.Former.{Former}
 use Rattle.types_rules.specs.Former.{former_of}
 use Rattle.types_cells.specs.Layout.{max_cells, max_pending, pool_size, links_at, records_at, arguments_at, firsts_at, counts_at, first_run, frozen_size, area_size}
-use Rattle.types_cells.specs.Store.{frozen, link_at, field_at, tag_at, arg_at, first_at, count_at, run, parts_at, former_at, view_of, view, Cell, load, link_of, Both, Held, Solved}
+use Rattle.types_cells.specs.Store.{frozen, link_at, field_at, tag_at, arg_at, first_at, count_at, run, parts_at, former_at, view_of, view, Cell, load, link_of, Both, Solved}
 use Rattle.types_cells.specs.Calls.{put, Making, Made, Above, Adding, Added}
 use Rattle.types_cells.proofs.Words.{frozen_length, run_at, run_length, link_new, link_same}
 use Rattle.types_cells.proofs.Heads.{arg_yes, view_at}

@@ -1,16 +1,16 @@
 -- The words of formers, and views.
 use mathlib.Core.Path.{◌≡◌, refl, sym, ap, ◌∙◌}
-use mathlib.Core.Bool.{Bool, true, false}
-use mathlib.Core.List.{List, [], ◌∷◌}
-use Prim.Native.Nat.{ℕ, zero, suc, ◌+◌, ◌≤◌, ◌<◌}
+use mathlib.Core.Bool.{true, false}
+use mathlib.Core.List.{List}
+use Prim.Native.Nat.{ℕ, zero, suc, ◌≤◌, ◌<◌}
 use native.Mathlib.Omega.{arith}
 use lib.Dec.{ltb}
 use lib.ListN.{length}
-use borrow.Author.Tests.{lt-ltb, le-ltb}
+use borrow.Author.Tests.{lt-ltb}
 use Rattle.types_rules.specs.Follows.{View, shape, unk}
 use Rattle.types_rules.specs.Former.{Former, binding, given, int, parameter, power, product}
 use Rattle.types_rules.specs.Former.{former_of, tag}
-use Rattle.types_cells.specs.Store.{frozen, field_at, tag_at, arg_at, count_at, run, parts_at, former_at, view_of, view, Cell}
+use Rattle.types_cells.specs.Store.{tag_at, arg_at, count_at, run, parts_at, former_at, view_of, view, Cell}
 use Rattle.types_cells.proofs.Words.{run_length}
 
 pub code : Former → ℕ

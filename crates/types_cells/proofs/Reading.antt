@@ -1,13 +1,12 @@
 -- Reading type words, a level at a time.
-use mathlib.Core.Path.{◌≡◌, refl, sym, ap, ap₂, subst, ◌∙◌}
+use mathlib.Core.Path.{◌≡◌, refl, sym, ap, subst, ◌∙◌}
 use mathlib.Core.Bool.{true, false}
 use mathlib.Core.List.{List, [], ◌∷◌, ◌++◌, append_assoc}
 use Prim.Native.Nat.{ℕ, zero, suc, ◌+◌, ◌-◌, ◌≤◌, ◌<◌}
 use native.Mathlib.Omega.{arith}
 use native.Mathlib.Nat.{eq-or-lt_of_le}
 use mathlib.Core.Logic.{⊎_elim}
-use lib.Dec.{eqb}
-use lib.ListN.{length, get_or, take, drop, length-append, length-take, length-drop, get_or-append}
+use lib.ListN.{length, get_or, drop, length-append, length-take, length-drop, get_or-append}
 use lib.Seq.{get_or-drop, get_or-take, get_or-append-add, drop_at, drop-drop, ext_get_or}
 use borrow.Author.Tests.{eq-eqb, ne_eqb}
 use Rattle.types_rules.specs.Former.{Former, int, given, parameter, power, product, binding, tag, identifiers, former_of}
@@ -19,7 +18,7 @@ use Rattle.types_rules.specs.Component.{pick_type, component_type}
 use Rattle.types_rules.proofs.Words.{words_one}
 use Rattle.types_cells.specs.Layout.{pool_size, area_size}
 use Rattle.types_cells.specs.Parts.{Names, Rest}
-use Rattle.types_cells.specs.Settled.{lower, heap, Reads, Readable, Areas, lead_words, name_words, parts_of}
+use Rattle.types_cells.specs.Settled.{lower, heap, Reads, Areas, lead_words, name_words, parts_of}
 
 pub reads_one : (H : List ℕ) (p : ℕ) (g k : Ty) → Reads H p g → Reads H p k → g ≡ k
 reads_one H p g k R S = (words_one g k R.formed S.formed R.after S.after (sym R.words_at ∙ S.words_at)).0
@@ -269,9 +268,6 @@ module _ (H : List ℕ) (p q : ℕ) (g k : Ty) (R : Reads H p g) (S : Reads H q 
   same_yes e h =
       words_same g k R.formed S.formed
       (ext_get_or 0 (words g) (words k) e (λ i l. sym (word_in H p g R i l) ∙ h i l ∙ word_in H q k S i (omega arith)))
-
-  pub same_no : (i : ℕ) → i < length (words g) → (get_or H (p + i) 0 ≡ get_or H (q + i) 0 → ⊥) → g ≡ k → ⊥
-  same_no i l d e = d (word_in H p g R i l ∙ ap (λ z. get_or (words z) i 0) e ∙ sym (word_in H q k S i (subst (λ z. i < length (words z)) e l)))
 
 pub names_length : (H : List ℕ) (p n : ℕ) (l : List ℕ) (gs : Tys) → Reads H p (node (binding l) gs) → get_or H (p + 1) 0 ≡ n → length l ≡ n
 unfolding second FormedType Arity

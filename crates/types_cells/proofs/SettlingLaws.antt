@@ -1,29 +1,24 @@
 -- A cell given a type: what changes, and what solutions make of it.
 use mathlib.Core.Path.{◌≡◌, refl, sym, ap, ap₂, subst, ◌∙◌}
 use mathlib.Core.Bool.{Bool, true, false}
-use mathlib.Core.List.{List, [], ◌∷◌, ◌++◌, map}
-use mathlib.Core.Logic.{◌⊎◌, inl, inr, ⊎_elim}
-use Prim.Native.Nat.{ℕ, zero, suc, ◌+◌, ◌-◌, ◌≤◌, ◌<◌}
+use mathlib.Core.List.{List, ◌++◌}
+use Prim.Native.Nat.{ℕ, ◌+◌, ◌-◌, ◌≤◌, ◌<◌}
 use native.Mathlib.Omega.{arith}
 use lib.Dec.{eqb}
-use lib.ListN.{length, get_or, set, length-set}
+use lib.ListN.{set, length-set}
 use lib.Seq.{get_or-set_same, get_or-set_other, take-set-le}
 use borrow.Author.Tests.{eqb-true, eqb-false}
-use Rattle.types_rules.proofs.Rational.{rep_sat}
 use Rattle.types_rules.proofs.Terms.{bool_no}
 use Rattle.types_rules.proofs.Trees.{whole_same}
-use Rattle.types_rules.specs.Classes.{Closed, rep}
-use Rattle.types_rules.specs.Equations.{AllP, Pairs, Solves, end}
-use Rattle.types_rules.specs.Finite.{from_list}
+use Rattle.types_rules.specs.Classes.{Closed}
+use Rattle.types_rules.specs.Equations.{AllP, Pairs, end}
 use Rattle.types_rules.specs.Follows.{Follows}
-use Rattle.types_rules.specs.Former.{Former}
 use Rattle.types_rules.specs.Trees.{Extent, Tree, whole}
 use Rattle.types_rules.specs.Types.{Ty}
 use Rattle.types_cells.specs.Layout.{max_cells, pool_size, links_at, settled_from}
-use Rattle.types_cells.specs.Store.{frozen, link_at, link_part, tag_at, former_at, count_at, first_at, parts_at, run, view, Cell, Held, Solved}
-use Rattle.types_cells.specs.Calls.{Root, Tells}
+use Rattle.types_cells.specs.Store.{frozen, link_at, link_part, tag_at, view, Held, Solved}
 use Rattle.types_cells.specs.Settled.{lower, heap, Reads, Readable, word_at, Pinned, ObeysIn, SameType, Kept, Pinning, Pin, Settling}
-use Rattle.types_cells.proofs.Words.{frozen_set, link_none, link_part_lem, link_same}
+use Rattle.types_cells.proofs.Words.{frozen_set, link_none}
 use Rattle.types_cells.proofs.LinkLaws.{held_same}
 use Rattle.types_cells.proofs.Reading.{reads_one}
 

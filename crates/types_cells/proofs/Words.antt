@@ -1,8 +1,8 @@
 -- The frozen part, link words and runs.
-use mathlib.Core.Path.{◌≡◌, refl, sym, ap, ap₂, ◌∙◌}
+use mathlib.Core.Path.{◌≡◌, refl, sym, ap, ◌∙◌}
 use mathlib.Core.List.{List, [], ◌∷◌}
 use mathlib.Core.Logic.{inl, inr}
-use Prim.Native.Nat.{ℕ, zero, suc, ◌+◌, ◌-◌, ◌≤◌, ◌<◌}
+use Prim.Native.Nat.{ℕ, zero, suc, ◌+◌, ◌≤◌, ◌<◌}
 use native.Mathlib.Omega.{arith}
 use lib.ListN.{length, get_or, take, drop, set, length-take, length-drop}
 use lib.Seq.{get_or-take, get_or-drop, drop-cons, drop-set-lt}
@@ -47,13 +47,6 @@ run_length w at k l = simp (length-take, length-drop) (omega arith)
 pub run_cons : (w : List ℕ) (at k : ℕ) → at < length w → run w at (suc k) ≡ get_or w at 0 ∷ run w (suc at) k
 unfolding run
 run_cons w at k l = ap (take (suc k)) (drop-cons w at 0 l)
-
--- The first of q words from j on, and the others.
-pub run_first : (ps : List ℕ) (j q : ℕ) → (q ≡ 0 → ⊥) → j + q ≤ length ps → run ps j q ≡ get_or ps j 0 ∷ run ps (j + 1) (q - 1)
-run_first ps j zero ne l = absurd (ne refl)
-run_first ps j (suc q) ne l =
-    run_cons ps j q (omega arith)
-    ∙ ap₂ (λ u v. get_or ps j 0 ∷ run ps u v) (let z : suc j ≡ j + 1 = omega arith in z) (let z : q ≡ suc q - 1 = omega arith in z)
 
 pub get_d_in : (l : List ℕ) (j : ℕ) → j < length l → In (get_or l j 0) l
 get_d_in [] j q = absurd (omega arith)

@@ -48,7 +48,7 @@ counts_at = records_at + 3
 abbrev pub settled_from : ℕ
 settled_from = max_cells + 1
 
--- The frozen part is what follows recordsAt: four words for each cell, then the runs, whose places count from records_at.
+-- The frozen part is what follows records_at: four words for each cell, then the runs, whose places count from records_at.
 abbrev pub first_run : ℕ
 first_run = 4 * max_cells
 

@@ -1,6 +1,6 @@
 -- Settled cells: an unknown cell whose link word refers to type words. The words stand in the caller's part of the area (places below dictionary_at) or in the
 -- dictionary d (place dictionary_at + k is word k of d).
-use Rattle.std.specs.Prelude.{◌≡◌, Bool, true, false, List, [], ◌∷◌, ◌++◌, map, ℕ, zero, suc, ◌+◌, ◌-◌, ◌≤◌, ◌<◌, ◌^◌, eqb, length, get_or, take, drop}
+use Rattle.std.specs.Prelude.{◌≡◌, Bool, true, false, List, ◌++◌, map, ℕ, zero, suc, ◌+◌, ◌-◌, ◌≤◌, ◌<◌, ◌^◌, eqb, length, get_or, take, drop}
 use Rattle.types_rules.specs.Former.{Former}
 use Rattle.types_rules.specs.Trees.{Extent, finite, Tree, build, whole}
 use Rattle.types_rules.specs.Types.{Ty}
@@ -9,7 +9,7 @@ use Rattle.std.proofs.Math.Option.{Option, some, none}
 use Rattle.types_rules.specs.Component.{component_type}
 use Rattle.types_rules.specs.Words.{words}
 use Rattle.types_rules.specs.Equations.{Pairs, Solves}
-use Rattle.types_rules.specs.Follows.{View, shape, unk}
+use Rattle.types_rules.specs.Follows.{shape, unk}
 use Rattle.types_cells.specs.Layout.{pool_size, links_at, marks_at, settled_from, first_run, area_size}
 use Rattle.types_cells.specs.Store.{frozen, link_at, tag_at, view, load, Held, Solved}
 use Rattle.types_cells.specs.Calls.{Above, Tells, Making}

@@ -6,14 +6,12 @@
 --   records_at  cell i at 4 i: tag, argument, first part, number of parts     (from here on: the frozen part, which no solving changes)
 --   runs_at     runs: the parts of cells, the identifiers of bindings; places in it count from records_at
 -- Tags are those of type words: 1 ℤ, 2 given, 3 power, 4 product, 5 binding (argument: the place of its identifiers), 6 parameter; 0 is an unknown.
-use Rattle.std.specs.Prelude.{◌≡◌, Bool, true, false, List, [], ◌∷◌, ℕ, zero, suc, ◌+◌, ◌*◌, ◌≤◌, ◌<◌, eqb, ltb, length, get_or, take, drop}
+use Rattle.std.specs.Prelude.{◌≡◌, true, false, List, ℕ, zero, suc, ◌+◌, ◌*◌, ◌≤◌, ◌<◌, eqb, ltb, length, get_or, take, drop}
 use Rattle.std.proofs.Math.Option.{Option, some, none}
-use Rattle.std.proofs.Common.{eqb-true}
-use Rattle.std.proofs.lemmas.Bool.{eqb-false}
-use Rattle.types_rules.specs.Classes.{Closed, Wf, next, rep, zip_n}
+use Rattle.types_rules.specs.Classes.{Closed, Wf, next}
 use Rattle.types_rules.specs.Equations.{AllP, In, Pairs, end, pair}
-use Rattle.types_rules.specs.Follows.{Clash, Follows, View, shape, unk}
-use Rattle.types_rules.specs.Former.{former_of, Former, binding, given, int, parameter, power, product}
+use Rattle.types_rules.specs.Follows.{Follows, View, shape, unk}
+use Rattle.types_rules.specs.Former.{former_of, Former}
 use Rattle.types_cells.specs.Layout.{max_cells, max_pending, links_at, pairs_at, seconds_at, records_at, settled_from, first_run, area_size}
 
 unfoldable pub frozen : List ℕ → List ℕ

@@ -35,6 +35,7 @@ pub fn find(a: &[u32], i: usize) -> usize
 {
     let mut k = i;
     let mut l = link(a, k);
+    // A while: the next cell is what is read.
     while l != 0 {
         k = l - 1;
         l = link(a, k);
@@ -58,9 +59,7 @@ pub fn flatten(a: &mut [u32], n: usize)
     requires { Sound a.old n }
     ensures { Flattened a.old a.new n }
 {
-    let mut i = 0;
-    while i < n {
+    for i in 0..n {
         shorten(a, i, n);
-        i += 1;
     }
 }

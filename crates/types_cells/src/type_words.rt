@@ -67,10 +67,8 @@ pub fn skip(a: &[u32], d: &[u32], p: usize) -> usize
     let w = name_words(t);
     let n = parts_of(a, d, t, p);
     let mut at = p + lead_words(t);
-    let mut j = 0;
-    while j < n {
+    for j in 0..n {
         at = skip(a, d, at + w);
-        j += 1;
     }
     at
 }
@@ -84,12 +82,10 @@ pub fn same_type(a: &[u32], d: &[u32], p: usize, q: usize) -> bool
     if skip(a, d, q) - q != m {
         return false;
     }
-    let mut j = 0;
-    while j < m {
+    for j in 0..m {
         if type_word(a, d, p + j) != type_word(a, d, q + j) {
             return false;
         }
-        j += 1;
     }
     true
 }

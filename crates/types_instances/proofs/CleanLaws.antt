@@ -1,11 +1,11 @@
 -- Where the caller's part is clean from `at` on, all types lie below `at` or in the dictionary; words written and wiped there keep it so.
 use mathlib.Core.Path.{◌≡◌, sym, ap, ◌∙◌}
 use mathlib.Core.List.{List}
-use mathlib.Core.Logic.{◌⊎◌, inl, inr, ⊎_elim}
+use mathlib.Core.Logic.{inl, inr, ⊎_elim}
 use Prim.Native.Nat.{ℕ, suc, ◌+◌, ◌-◌, ◌≤◌, ◌<◌}
 use native.Mathlib.Omega.{arith}
 use lib.ListN.{length, get_or, replicate, length-replicate, get_or-replicate}
-use lib.Seq.{sets, length-sets, ext_get_or}
+use lib.Seq.{sets, ext_get_or}
 use Rattle.types_rules.specs.Types.{Ty}
 use Rattle.types_rules.specs.Words.{words}
 use Rattle.types_cells.specs.Layout.{pool_size, settled_from, area_size}

@@ -3,8 +3,8 @@ use mathlib.Core.Path.{◌≡◌, refl, sym, ap, ap₂, subst, ◌∙◌}
 use mathlib.Core.List.{List, [], ◌∷◌, ◌++◌, append_assoc}
 use Prim.Native.Nat.{ℕ, zero, suc, ◌+◌, ◌≤◌, ◌<◌}
 use native.Mathlib.Omega.{arith}
-use lib.ListN.{length, get_or, take, drop, length-append}
-use lib.Seq.{sets, take_at}
+use lib.ListN.{length, get_or, length-append}
+use lib.Seq.{sets}
 use Rattle.words.proofs.Lists.{sets_append}
 use Rattle.types_rules.specs.Former.{Former, int, given, parameter, power, product, binding, tag, identifiers}
 use Rattle.types_rules.specs.Types.{Ty, Tys, node, tnil, tcons}
@@ -16,13 +16,9 @@ use Rattle.types_solver.specs.Written.{lead, Wrote}
 use Rattle.types_cells.specs.Parts.{Names, Rest}
 use Rattle.types_cells.proofs.Reading.{rest_start, Part, part_next, parts_are, tag_there, inside, place_low}
 use Rattle.types_cells.proofs.Words.{run_cons, run_length}
+use Rattle.types_solver.proofs.Copying.{run_words_lem}
 use Rattle.types_instances.specs.Fill.{fill, fills}
 use Rattle.types_instances.proofs.FillLaws.{fills_count, fill_node}
-
--- The words at p begin a type.
-pub run_words_lem : (H : List ℕ) (p : ℕ) (xs ys : List ℕ) (k : ℕ) → length xs ≡ k → drop p H ≡ xs ++ ys → run H p k ≡ xs
-unfolding run
-run_words_lem H p xs ys k e q = ap (take k) q ∙ take_at xs ys k e
 
 -- The words of a type from its parts on, filled.
 unfoldable pub body : Tys → Ty → List ℕ

@@ -14,7 +14,7 @@ use codes::type_tags;
 use types_cells::area::{CELL_WORDS, FIRST_RUN, LINKS, RECORDS, RUNS};
 use types_cells::type_words::{lead_words, name_words, parts_of, skip, type_word};
 use types_solver::sizes::{capped, type_size};
-use types_solver::writing::put_type;
+use types_solver::writing::{put_type, put_words};
 use words::{store, word};
 
 // The words of a parameter: the tag, the number.
@@ -71,28 +71,13 @@ pub fn filled_size(a: &[u32], d: &[u32], p: usize, row: &[u32]) -> Sized
     let n = parts_of(a, d, t, p);
     let mut at = p + lead_words(t);
     let mut sum = 1;
-    let mut j = 0;
-    while j < n {
+    for j in 0..n {
         let q = at + w;
         let part = filled_size(a, d, q, row);
         sum = capped(sum + part.size);
         at = part.end;
-        j += 1;
     }
     Sized { size: sum, end: at }
-}
-
-// The k type words at p, from `at` on: where they end.
-fn put_words(a: &[u32], d: &[u32], p: usize, k: usize, out: &mut [u32], at: usize) -> usize
-    requires { (length a.now ≡ area_size) × (p + k ≤ length (heap a.now d.now)) × (p + k < 2 ^ 40) × (at + k < 2 ^ 41) }
-    ensures { Wrote out.old out.new at result (run (heap a.now d.now) p k) }
-{
-    let mut j = 0;
-    while j < k {
-        store(out, at + j, type_word(a, d, p + j) as u32);
-        j += 1;
-    }
-    at + k
 }
 
 // What the parameter at p becomes, from `at` on: where it ends.
@@ -121,13 +106,11 @@ fn write_filled(a: &[u32], d: &[u32], p: usize, row: &[u32], out: &mut [u32], at
     let k = lead_words(t);
     let mut q = p + k;
     let mut e = put_words(a, d, p, k, out, at);
-    let mut j = 0;
-    while j < n {
+    for j in 0..n {
         e = put_words(a, d, q, w, out, e);
-        q = q + w;
+        q += w;
         e = write_filled(a, d, q, row, out, e);
         q = skip(a, d, q);
-        j += 1;
     }
     e
 }
@@ -155,10 +138,8 @@ pub fn copy_words(a: &mut [u32], at: usize, from: &[u32], first: usize, k: usize
     requires { (first + k ≤ length from.now) × (first + k < 2 ^ 40) × (at + k < 2 ^ 40) }
     ensures { a.new ≡ sets a.old at (run from.now first k) }
 {
-    let mut j = 0;
-    while j < k {
+    for j in 0..k {
         store(a, at + j, word(from, first + j) as u32);
-        j += 1;
     }
 }
 
@@ -167,10 +148,8 @@ pub fn wipe(a: &mut [u32], from: usize, to: usize)
     requires { to < 2 ^ 40 }
     ensures { a.new ≡ sets a.old from (replicate (to - from) 0) }
 {
-    let mut i = from;
-    while i < to {
+    for i in from..to {
         store(a, i, 0);
-        i += 1;
     }
 }
 

@@ -12,7 +12,7 @@ use Rattle.types_rules.proofs.Closed.{closed_start}
 use Rattle.types_rules.proofs.Transfer.{follows_holds}
 use Rattle.types_rules.specs.Equations.{Pairs, end}
 use Rattle.types_rules.specs.Trees.{Extent, finite, Tree}
-use Rattle.types_rules.specs.Types.{Ty, size}
+use Rattle.types_rules.specs.Types.{Ty}
 use Rattle.types_cells.specs.Layout.{max_cells, settled_from, area_size}
 use Rattle.types_cells.specs.Store.{frozen, tag_at, view, load, Held, Solved}
 use Rattle.types_cells.specs.Settled.{heap, word_at, Reads, Readable, Pinned, ObeysIn, Fits}

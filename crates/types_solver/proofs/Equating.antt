@@ -3,10 +3,10 @@ use mathlib.Core.Path.{◌≡◌, refl, sym, ap, subst, ◌∙◌}
 use mathlib.Core.Bool.{Bool, true, false}
 use mathlib.Core.List.{List, [], ◌∷◌}
 use mathlib.Core.Logic.{inl, inr, ⊎_elim}
-use Prim.Native.Nat.{ℕ, ◌+◌, ◌-◌, ◌<◌, ◌≤◌, ◌^◌}
+use Prim.Native.Nat.{ℕ, ◌+◌, ◌<◌, ◌≤◌, ◌^◌}
 use native.Mathlib.Omega.{arith}
 use lib.Dec.{eqb}
-use lib.ListN.{length, get_or}
+use lib.ListN.{length, get_or, take, drop}
 use borrow.Author.Tests.{eqb-true, eqb-false}
 use Rattle.types_rules.proofs.Infinite.{inf, inf_fits, inf_sat, inf_unknown}
 use Rattle.types_rules.proofs.Terms.{bool_no}
@@ -15,6 +15,8 @@ use Rattle.types_rules.specs.Infinite.{Inf}
 use Rattle.types_rules.specs.Trees.{Extent, finite, infinite, Tree, whole}
 use Rattle.types_rules.specs.Types.{integer_type}
 use Rattle.types_cells.specs.Layout.{max_cells, links_at, settled_from}
+use Rattle.std.proofs.Math.ListN.{drop_of_length-le}
+use Rattle.std.proofs.lemmas.List.{drop_more}
 use Rattle.types_cells.specs.Store.{frozen, link_at, run, view, Solved}
 use Rattle.types_cells.specs.Settled.{Pinned, ObeysIn, FitsIn}
 use Rattle.types_unifier.specs.Merging.{Asking, Merged, Done}
@@ -24,7 +26,7 @@ use Rattle.types_cells.proofs.Flat.{refers_pinned, refers_to, refers_from}
 use Rattle.types_cells.proofs.Growing.{lt_or_ge}
 use Rattle.types_cells.proofs.Heads.{view_unk}
 use Rattle.types_cells.proofs.LinkLaws.{stop_rep}
-use Rattle.types_cells.proofs.Words.{link_part_lem, link_none, run_first}
+use Rattle.types_cells.proofs.Words.{link_part_lem, link_none}
 use Rattle.types_solver.specs.Sizes.{mark_at, Sized, Same, Read, TestedFinite}
 use Rattle.types_solver.specs.Answers.{SolutionIn, SolutionOf}
 use Rattle.types_solver.specs.Equation.{pairs_with, Within, Equating, MergedAll, Equation}
@@ -126,28 +128,27 @@ module _ (s t d : List ℕ) (c : ℕ) (l : List ℕ) (y k : ℕ) where
       stops = λ e n P₀ L S P W. then_stops u b N n P₀ L S P W.0 W.1 W.2 e;
     }
 
--- The same for words of a list.
-pub all_done : (s d ps : List ℕ) (j q y k : ℕ) → q ≡ 0 → MergedAll s s d (run ps j q) y k true
-unfolding run
-all_done s d ps j q y k e = subst (λ z. MergedAll s s d (run ps j z) y k true) (sym e) (all_none s d y k)
+-- The same for the words of a list from the i-th on.
+pub all_done : (s d ps : List ℕ) (i y k : ℕ) → length ps ≤ i → MergedAll s s d (drop i ps) y k true
+all_done s d ps i y k l = subst (λ z. MergedAll s s d z y k true) (sym (drop_of_length-le ps l)) (all_none s d y k)
 
-module _ (s d ps : List ℕ) (j q y k : ℕ) (P : (j + q ≤ length ps) × ((n : ℕ) × Equating s d n (run ps j q) y k)) (ne : q ≡ 0 → ⊥) where
+module _ (s d ps : List ℕ) (i y k : ℕ) (lt : i < length ps) (P : (n : ℕ) × Equating s d n (drop i ps) y k) where
   abbrev c₀ : ℕ
-  c₀ = get_or ps j 0
+  c₀ = get_or ps i 0
 
   abbrev l₀ : List ℕ
-  l₀ = run ps (j + 1) (q - 1)
+  l₀ = drop (i + 1) ps
 
-  split : run ps j q ≡ c₀ ∷ l₀
-  split = run_first ps j q ne P.0
+  split : drop i ps ≡ c₀ ∷ l₀
+  split = drop_more ps i 0 lt
 
-  asked : Equating s d P.1.0 (c₀ ∷ l₀) y k
-  asked = subst (λ l. Equating s d P.1.0 l y k) split P.1.1
+  asked : Equating s d P.0 (c₀ ∷ l₀) y k
+  asked = subst (λ l. Equating s d P.0 l y k) split P.1
 
   pub first_asking : Asking s d c₀ y
   unfolding Within
   first_asking = record {
-    n = P.1.0;
+    n = P.0;
     P₀ = asked.P₀;
     L = asked.L;
     solved = asked.solved;
@@ -162,18 +163,19 @@ module _ (s d ps : List ℕ) (j q y k : ℕ) (P : (j + q ≤ length ps) × ((n :
   few_next = let l = asked.made.1 in let f = asked.solved.held.few in let z = asked.step in omega arith
 
   module _ (t : List ℕ) (b : Bool) (M : Merged s t d c₀ y b) where
-    pub others_ask : b ≡ true → ((j + 1) + (q - 1) ≤ length ps) × ((n : ℕ) × Equating t d n l₀ (y + k) k)
-    others_ask e = (let l = P.0 in omega (arith, ne), (P.1.0, first_asks s t d c₀ l₀ y k (subst (Merged s t d c₀ y) e M) P.1.0 asked))
+    pub others_ask : b ≡ true → (n : ℕ) × Equating t d n l₀ (y + k) k
+    others_ask e = (P.0, first_asks s t d c₀ l₀ y k (subst (Merged s t d c₀ y) e M) P.0 asked)
 
-    pub all_refused : b ≡ false → MergedAll s t d (run ps j q) y k false
+    pub all_refused : b ≡ false → MergedAll s t d (drop i ps) y k false
     all_refused e = subst (λ l. MergedAll s t d l y k false) (sym split) (first_not s t d c₀ l₀ y k (subst (Merged s t d c₀ y) e M))
 
-    pub all_merged : b ≡ true → (u : List ℕ) (r : Bool) → MergedAll t u d l₀ (y + k) k r → MergedAll s u d (run ps j q) y k r
+    pub all_merged : b ≡ true → (u : List ℕ) (r : Bool) → MergedAll t u d l₀ (y + k) k r → MergedAll s u d (drop i ps) y k r
     all_merged e u r N = subst (λ l. MergedAll s u d l y k r) (sym split) (first_then s t d c₀ l₀ y k (subst (Merged s t d c₀ y) e M) u r N)
 
 -- By the answer of the calls.
-pub merged_as : {s u d : List ℕ} {l : List ℕ} {y k : ℕ} {b r : Bool} → MergedAll s u d l y k b → b ≡ r → MergedAll s u d l y k r
-merged_as {s = s} {u = u} {d = d} {l = l} {y = y} {k = k} M e = subst (MergedAll s u d l y k) e M
+pub merged_as : {s u d : List ℕ} (ps : List ℕ) (q : ℕ) {y k : ℕ} {b r : Bool} → MergedAll s u d (take q ps) y k b → b ≡ r → MergedAll s u d (run ps 0 q) y k r
+unfolding run
+merged_as {s = s} {u = u} {d = d} ps q {y = y} {k = k} M e = subst (MergedAll s u d (take q ps) y k) e M
 
 pub tested_as : {s u : List ℕ} {n : ℕ} {b r : Bool} → TestedFinite s u n b → b ≡ r → TestedFinite s u n r
 tested_as {s = s} {u = u} {n = n} T e = subst (TestedFinite s u n) e T

@@ -2,30 +2,30 @@
 use mathlib.Core.Path.{◌≡◌, refl, sym, ap, ap₂, subst, ◌∙◌}
 use mathlib.Core.Bool.{Bool, true, false}
 use mathlib.Core.List.{List, [], ◌∷◌, map}
-use mathlib.Core.Logic.{◌⊎◌, inl, inr, ⊎_elim}
-use mathlib.Core.Option.{Option, some, none}
+use mathlib.Core.Logic.{inl, inr}
+use mathlib.Core.Option.{some, none}
 use Prim.Native.Nat.{ℕ, zero, suc, ◌+◌, ◌*◌, ◌-◌, ◌≤◌, ◌<◌, ◌^◌}
 use native.Mathlib.Omega.{arith}
 use lib.Dec.{eqb}
 use borrow.Author.Tests.{eqb-true, eqb-false}
 use lib.ListN.{length, get_or}
-use Rattle.types_rules.specs.Equations.{In, Pairs}
+use Rattle.types_rules.specs.Equations.{In}
 use Rattle.types_rules.specs.Finite.{from_list}
 use Rattle.types_rules.specs.Former.{Former, int, given, parameter, power, product, binding, tag, identifiers, former_of}
 use Rattle.types_rules.specs.Formed.{part_count_type}
 use Rattle.types_rules.specs.Instance.{nth, actual, instance_former, instance, instances}
-use Rattle.types_rules.specs.Types.{Ty, Tys, Term, Terms, con, node, tcons, tnil, size, sizes, under, unders, unknown}
+use Rattle.types_rules.specs.Types.{Ty, Tys, Terms, node, tcons, tnil, size, sizes, under, unders, unknown}
 use Rattle.types_rules.specs.Words.{second, words}
 use Rattle.types_cells.specs.Layout.{frozen_size}
-use Rattle.types_cells.specs.Store.{frozen, load, run, view, Solved}
+use Rattle.types_cells.specs.Store.{frozen, run, Solved}
 use Rattle.types_cells.specs.Calls.{Above, Adding, Added, Making, Made}
 use Rattle.types_cells.specs.Parts.{Names, Rest}
-use Rattle.types_cells.specs.Settled.{lower, heap, lead_words, name_words, parts_of, Areas, Ends, Fits, Reading, Reads}
-use Rattle.types_solver.specs.Growth.{arg_of, unknowns, Builds, Forming, Formed, Grows, InRow, Instance, Instanced, Instances, InstancedParts, Instancing, InstancingParts, Putting, PutPart, EnteringRoom}
+use Rattle.types_cells.specs.Settled.{heap, lead_words, name_words, parts_of, Ends, Fits, Reading, Reads}
+use Rattle.types_solver.specs.Growth.{arg_of, unknowns, Builds, Forming, Formed, InRow, Instance, Instanced, Instances, InstancedParts, Instancing, InstancingParts, Putting, PutPart, EnteringRoom}
 use Rattle.types_cells.proofs.Words.{frozen_length, run_cons}
 use Rattle.types_cells.proofs.Growing.{made_above, made_load, run_frame}
 use Rattle.types_cells.proofs.SettlingLaws.{heap_kept}
-use Rattle.types_cells.proofs.Reading.{Part, heap_length, is_binding, lead_1, lead_3, like_yes, name_5, part_next, parts_3, parts_4, parts_are, place_low, rest_start, second_at, tag_there, words_some}
+use Rattle.types_cells.proofs.Reading.{heap_length, is_binding, lead_1, lead_3, like_yes, name_5, part_next, parts_3, parts_4, parts_are, place_low, rest_start, second_at, tag_there, words_some}
 use Rattle.types_solver.proofs.Extending.{above_wide, added_above, added_builds, added_here, added_load, added_other, builds_on, builds_refl, fits_old, former_builds, former_type}
 
 -- Room for more is room for less. A type in the dictionary has at most 32 formers (finding 38), so room for 32 is enough.
@@ -91,9 +91,6 @@ arg_few (suc (suc (suc (suc (suc (suc t)))))) v ids bound a b = a
 
 -- A former's cell.
 module _ (s s₁ : List ℕ) (n top t v m arg : ℕ) (A : Forming s n top t v m) (e : arg ≡ arg_of t v (top + m)) where
-  pub forming : Making s n t arg top m
-  forming = subst (λ z. Making s n t z top m) (sym e) A.making
-
   pub formed : (n' top' : ℕ) → n' ≡ suc n → top + m ≤ top' → top' ≤ top + m + m → (t ≡ 5 → top + m + m ≤ top') → Made s s₁ n t arg top m → Formed s s₁ n top t v m n n' top'
   formed n' top' en a b c N =
       let N' : Made s s₁ n t (arg_of t v (top + m)) top m = subst (λ z. Made s s₁ n t z top m) e N in

@@ -1,6 +1,6 @@
 -- Finding 35, with settled cells.
-use mathlib.Core.Path.{◌≡◌, refl, sym, ap, ap₂, subst, ◌∙◌}
-use mathlib.Core.Bool.{Bool, true, false}
+use mathlib.Core.Path.{◌≡◌, refl, sym, ap, subst, ◌∙◌}
+use mathlib.Core.Bool.{true, false}
 use mathlib.Core.List.{List, [], ◌∷◌, map}
 use mathlib.Core.Option.{Option, some, none}
 use Prim.Native.Nat.{ℕ, zero, suc, ◌+◌, ◌-◌, ◌≤◌, ◌<◌}
@@ -10,17 +10,17 @@ use lib.ListN.{length, get_or}
 use borrow.Author.Tests.{eq-eqb, ne_eqb}
 use Rattle.types_rules.specs.Classes.{rep}
 use Rattle.types_rules.specs.Component.{pick_type, component_type}
-use Rattle.types_rules.specs.Equations.{In, Pairs, Solves}
+use Rattle.types_rules.specs.Equations.{In, Pairs}
 use Rattle.types_rules.specs.Finite.{from_list}
 use Rattle.types_rules.specs.Former.{Former, binding, given, identifiers, int, parameter, power, product}
 use Rattle.types_rules.specs.Types.{Ty, Tys, node, tcons, tnil, integer_type}
-use mathlib.Core.Logic.{◌⊎◌, inl, inr}
+use mathlib.Core.Logic.{inl, inr}
 use Rattle.types_cells.specs.Layout.{max_cells, settled_from}
 use Rattle.types_cells.specs.Store.{frozen, link_at, tag_at, arg_at, first_at, count_at, run, parts_at, former_at, Held, Solved}
-use Rattle.types_cells.specs.Calls.{Known, Root}
+use Rattle.types_cells.specs.Calls.{Root}
 use Rattle.types_solver.specs.Sizes.{Solution}
-use Rattle.types_cells.specs.Settled.{heap, word_at, Reads, Readable, Pinned, FoundType, Component}
-use Rattle.types_solver.specs.Answers.{Finite, SolutionOf, Without, Looking, LookingRoot, Looked}
+use Rattle.types_cells.specs.Settled.{heap, word_at, Readable, FoundType, Component}
+use Rattle.types_solver.specs.Answers.{SolutionOf, Looking, LookingRoot, Looked}
 use Rattle.types_cells.proofs.LinkLaws.{rep_below, stop_rep}
 use Rattle.types_cells.proofs.Words.{run_at, run_length, get_d_in}
 use Rattle.types_cells.proofs.Heads.{parts_length, head_five, not_five, binding_inj}

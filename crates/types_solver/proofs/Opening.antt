@@ -1,33 +1,32 @@
 -- Solutions of a store with settled cells: there is one where types are finite, and two where a cell is left open.
-use mathlib.Core.Path.{◌≡◌, refl, sym, ap, ap₂, subst, ◌∙◌}
+use mathlib.Core.Path.{◌≡◌, refl, sym, ap, subst, ◌∙◌}
 use mathlib.Core.Bool.{Bool, true, false}
-use mathlib.Core.List.{List, [], ◌∷◌, map}
-use mathlib.Core.Logic.{◌⊎◌, inl, inr, ⊎_elim}
+use mathlib.Core.List.{List}
+use mathlib.Core.Logic.{⊎_elim}
 use Prim.Native.Nat.{ℕ, zero, suc, ◌+◌, ◌-◌, ◌≤◌, ◌<◌}
 use native.Mathlib.Omega.{arith}
 use native.Mathlib.Nat.{eq-zero-or-pos}
 use lib.Dec.{eqb, ltb}
-use lib.ListN.{length, get_or}
-use borrow.Author.Tests.{eqb-true, eqb-false, lt-ltb, le-ltb, ltb-true, ltb-false}
+use lib.ListN.{get_or}
+use borrow.Author.Tests.{eqb-true, eqb-false, ltb-true, ltb-false}
 use Rattle.types_rules.proofs.Finite.{all_at, map_same, solution_unknown}
 use Rattle.types_rules.proofs.Terms.{bool_no}
 use Rattle.types_rules.specs.Classes.{rep}
-use Rattle.types_rules.specs.Equations.{In, Pairs, Solves}
+use Rattle.types_rules.specs.Equations.{Pairs}
 use Rattle.types_rules.specs.Finite.{bounded, bounded_view, from_list, type_of}
 use Rattle.types_rules.specs.Follows.{View, shape, unk}
-use Rattle.types_rules.specs.Types.{Ty, Tys, node, integer_type, ℙℤ}
+use Rattle.types_rules.specs.Types.{Ty, node, integer_type, ℙℤ}
 use Rattle.types_cells.specs.Layout.{links_at, settled_from}
-use Rattle.types_cells.specs.Store.{frozen, link_at, link_part, tag_at, view, Held, Solved}
+use Rattle.types_cells.specs.Store.{frozen, link_at, tag_at, view, Held, Solved}
 use Rattle.types_cells.specs.Calls.{Root}
 use Rattle.types_solver.specs.Sizes.{Solution, TestedFinite}
 use Rattle.types_solver.specs.Answers.{Finite, SolutionOf, Differ, Left}
-use Rattle.types_cells.specs.Settled.{heap, Reads, Readable, word_at, Pinned, Obeys, Fits}
+use Rattle.types_cells.specs.Settled.{heap, Reads, word_at, Pinned}
 use Rattle.types_cells.proofs.LinkLaws.{rep_below, stop_rep}
 use Rattle.types_cells.proofs.Words.{link_none}
 use Rattle.types_cells.proofs.Heads.{view_unk, view_shape}
 use Rattle.types_solver.proofs.Marking.{kids_below, by_rep, solve_with}
-use Rattle.types_cells.proofs.Reading.{reads_one, below_next}
-use Rattle.types_cells.proofs.Growing.{lt_or_ge}
+use Rattle.types_cells.proofs.Reading.{reads_one}
 
 -- The type that cell i refers to, and β i where it does not.
 choose : (s d : List ℕ) (n : ℕ) → Pinned s d n → (ℕ → Ty) → (i : ℕ) (b c : Bool) → ltb i n ≡ b → ltb (word_at s i) settled_from ≡ c → Ty
@@ -160,16 +159,6 @@ left_no s n h = record {
   one = λ f d P₀ L S P F X Y i l. all_one s d n P₀ L S P F (λ j m e. h j m L S.held e) X Y i l;
   resolved = λ f L H i l. h i l L H;
 }
-
-pub scan_next : (s : List ℕ) (n i x : ℕ) → i < n → Root s i x → ((tag_at (frozen s) x ≡ 0) × (word_at s x < settled_from) → ⊥) →
-    ((j : ℕ) → j < i → (L : Pairs ℕ) → Held s n L → tag_at (frozen s) (rep eqb L j) ≡ 0 → settled_from ≤ word_at s (rep eqb L j)) →
-    (j : ℕ) → j < i + 1 → (L : Pairs ℕ) → Held s n L → tag_at (frozen s) (rep eqb L j) ≡ 0 → settled_from ≤ word_at s (rep eqb L j)
-scan_next s n i x l Q d h = below_next (λ j. (L : Pairs ℕ) → Held s n L → tag_at (frozen s) (rep eqb L j) ≡ 0 → settled_from ≤ word_at s (rep eqb L j)) i h here
-  where
-    here : (L : Pairs ℕ) → Held s n L → tag_at (frozen s) (rep eqb L i) ≡ 0 → settled_from ≤ word_at s (rep eqb L i)
-    here L H e =
-        let q = Q.is n L H l in
-        ⊎_elim (λ z. absurd (d (sym (ap (tag_at (frozen s)) q) ∙ e, subst (λ y. word_at s y < settled_from) q z))) (λ z. z) (lt_or_ge (word_at s (rep eqb L i)) settled_from)
 
 -- `finite` and settled cells: true, there is a solution that gives them their types; false, there is none.
 pub finite_some : (s s' d : List ℕ) (n : ℕ) → TestedFinite s s' n true → (P₀ L : Pairs ℕ) → Solved s n P₀ L → Pinned s d n → SolutionOf s d n P₀

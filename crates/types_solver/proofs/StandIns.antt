@@ -18,7 +18,7 @@ use Rattle.types_rules.specs.Follows.{shape, unk}
 use Rattle.types_rules.specs.Formed.{part_count_type}
 use Rattle.types_rules.specs.Former.{Former, binding, former_of, given, identifiers, int, parameter, power, product, tag}
 use Rattle.types_rules.specs.Infinite.{Inf, mk_i}
-use Rattle.types_rules.specs.Trees.{finite, infinite}
+use Rattle.types_rules.specs.Trees.{infinite}
 use Rattle.types_rules.specs.Types.{Ty, Tys, node, size, tcons, tnil}
 use Rattle.types_rules.specs.Words.{part_words, second, words}
 use Rattle.types_cells.specs.Layout.{records_at, pool_size, settled_from}

@@ -2,20 +2,20 @@
 use mathlib.Core.Path.{◌≡◌, refl, sym, ap, subst, ◌∙◌}
 use mathlib.Core.Bool.{Bool, true, false}
 use mathlib.Core.List.{List}
-use mathlib.Core.Logic.{◌⊎◌, ⊎_elim}
-use Prim.Native.Nat.{ℕ, ◌+◌, ◌-◌, ◌≤◌, ◌<◌}
+use mathlib.Core.Logic.{⊎_elim}
+use Prim.Native.Nat.{ℕ, ◌+◌, ◌≤◌, ◌<◌}
 use native.Mathlib.Omega.{arith}
 use native.Mathlib.Nat.{eq-or-lt_of_le}
 use lib.ListN.{length, set}
 use Rattle.types_rules.proofs.Terms.{bool_no}
 use Rattle.types_rules.specs.Equations.{Pairs}
-use Rattle.types_rules.specs.Types.{size, sizes}
+use Rattle.types_rules.specs.Types.{size}
 use Rattle.types_cells.specs.Layout.{max_cells, marks_at, area_size}
 use Rattle.types_cells.specs.Store.{frozen, parts_at, Held, Solved}
 use Rattle.types_cells.specs.Calls.{Known}
 use Rattle.types_solver.specs.Sizes.{mark_at, Sized, Marks, Same, Read, Falls, Visited, Calm, Visits, Cleared, Solution, TestedFinite}
 use Rattle.types_cells.proofs.Heads.{view_shape}
-use Rattle.types_solver.proofs.Marking.{by_rep, solve, same_refl, same_on, same_held, same_solved, mark_same, mark_hit, mark_miss}
+use Rattle.types_solver.proofs.Marking.{by_rep, solve, same_on, same_held, same_solved, mark_same, mark_hit, mark_miss}
 use Rattle.types_solver.proofs.Summing.{part_size}
 
 -- The cells before i have been marked.
@@ -24,9 +24,6 @@ pub record Seen (s t : List ℕ) (n i : ℕ) : Type 0 where
   pub calm : Calm s n → Calm t n
   pub done : (j : ℕ) → j < i → (mark_at t j ≡ 0 → ⊥) × (mark_at t j ≡ 34 → ⊥)
   pub marks : (L : Pairs ℕ) → Held s n L → Marks s n L → Marks t n L
-
-pub seen_start : (s : List ℕ) (n : ℕ) → Seen s s n 0
-seen_start s n = record { same = same_refl s; calm = λ C. C; done = λ j l. absurd (omega arith); marks = λ L H M. M }
 
 module _ (s t : List ℕ) (n i : ℕ) (X : Seen s t n i) (D : Read s n) (l : i < n) where
   H-at : (L : Pairs ℕ) → Held s n L → Held t n L
@@ -55,17 +52,6 @@ module _ (s t : List ℕ) (n i : ℕ) (X : Seen s t n i) (D : Read s n) (l : i <
         marks = λ L H M. R.marks n L (H-at L H) l (X.marks L H M);
       }
 
-pub seen_end : (s t : List ℕ) (n i : ℕ) → n ≤ i → Seen s t n i → Visits s t n true
-seen_end s t n i le X = record {
-  same = X.same;
-  goes = λ q L H M j l.
-      let d = X.done j (omega arith) in subst (λ w. Sized w n L j (mark_at t j)) X.same.still ((X.marks L H M).right j l d.0 d.1);
-  stops = λ q. absurd (bool_no true refl q);
-}
-
-pub clear_start : (s : List ℕ) → Cleared s s 0
-clear_start s = record { same = same_refl s; none = λ j l. absurd (omega arith) }
-
 pub clear_step : (s t : List ℕ) (n i : ℕ) → Cleared s t i → Read s n → i < n → Cleared s (set t (marks_at + i) 0) (i + 1)
 clear_step s t n i C D l =
     let size : length t ≡ area_size = C.same.size ∙ D.held.size in
@@ -77,9 +63,6 @@ clear_step s t n i C D l =
           (λ q. mark_miss t i 0 size few j (λ e. omega arith) ∙ C.none j q)
           (eq-or-lt_of_le (let z : j ≤ i = omega arith in z));
     }
-
-pub clear_end : (s t : List ℕ) (n i : ℕ) → n ≤ i → Cleared s t i → Cleared s t n
-clear_end s t n i le C = record { same = C.same; none = λ j l. C.none j (omega arith) }
 
 -- The sizes of a solution fall.
 pub solution_falls : (s : List ℕ) (n : ℕ) (P₀ L : Pairs ℕ) → Solved s n P₀ L → (X : Solution (frozen s) n P₀) → Falls (frozen s) n L (λ i. size (X.σ i))

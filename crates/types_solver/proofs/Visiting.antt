@@ -2,7 +2,7 @@
 use mathlib.Core.Path.{◌≡◌, refl, sym, ap, subst, ◌∙◌}
 use mathlib.Core.Bool.{Bool, true, false}
 use mathlib.Core.List.{List, map}
-use mathlib.Core.Logic.{◌⊎◌, ⊎_elim}
+use mathlib.Core.Logic.{⊎_elim}
 use Prim.Native.Nat.{ℕ, zero, suc, ◌+◌, ◌*◌, ◌-◌, ◌≤◌, ◌<◌}
 use native.Mathlib.Omega.{arith}
 use native.Mathlib.Nat.{eq-or-lt_of_le, eq-zero-or-pos}
@@ -21,7 +21,7 @@ use Rattle.types_solver.specs.Sizes.{cap, mark_at, bare, arity_of, arity_at, typ
 use Rattle.types_cells.proofs.LinkLaws.{far, far_le, far_less, hop_below, hop_rep, stop_rep}
 use Rattle.types_cells.proofs.Words.{run_at, run_length, get_d_in, in_get_d}
 use Rattle.types_solver.proofs.Marking.{cap_le, cap_pos, cap_low, sized_unk, sized_shape, sized_class, same_refl, same_on, same_held, mark_same, mark_hit, mark_miss, bare_mark, bare_less, marks_set}
-use Rattle.types_solver.proofs.Summing.{ToAdd, add_start, add_step, add_end}
+use Rattle.types_solver.proofs.Summing.{ToAdd, add_step, add_end}
 
 onward_refl : (s : List ℕ) → Onward s s
 onward_refl s = record { same = same_refl s; fewer = omega arith; kept = λ i d. refl; ended = λ i e. e }
@@ -58,14 +58,6 @@ pub record Parts (s t : List ℕ) (r k j sum : ℕ) : Type 0 where
   pub few : sum ≤ 33
   pub some : 0 < sum
   pub sums : (n : ℕ) (L : Pairs ℕ) → Held s n L → r < n → Marks s n L → Marks t n L × Sum (frozen s) n L r k j sum
-
-pub parts_start : (s : List ℕ) (r k : ℕ) → Parts s s r k 0 1
-parts_start s r k = record {
-  onward = onward_refl s;
-  few = omega arith;
-  some = omega arith;
-  sums = λ n L H l M. (M, record { finite = λ i q. absurd (omega arith); left = add_start (type_at (frozen s) n L) (frozen s) (first_at (frozen s) r) k });
-}
 
 arity_unknown : (t k : ℕ) → t ≡ 0 → arity_of t k ≡ 0
 unfolding arity_of

@@ -66,7 +66,7 @@ pub record LookingRoot (s d : List ℕ) (i : ℕ) : Type 0 where
   pub looking : Looking s d i
   pub root : link_at s i ≡ 0
 
--- 35. c + 1, below settledFrom: in every solution cell i is a binding where id has the type of cell c. settled_from + p: in every solution it is one where id
+-- 35. c + 1, below settled_from: in every solution cell i is a binding where id has the type of cell c. settled_from + p: in every solution it is one where id
 -- has the type whose words stand at p. 0: in some solution it is not.
 pub record Looked (s d : List ℕ) (i id v : ℕ) : Type 0 where
   pub found : (c : ℕ) → v ≡ suc c → v < settled_from → (n : ℕ) (P₀ L : Pairs ℕ) → Solved s n P₀ L → i < n → (X : SolutionOf s d n P₀) → component_type id (X.σ i) ≡ some (X.σ c)

@@ -1,13 +1,13 @@
 -- A type as words, in prefix order, and the writer's contracts.
-use Rattle.std.specs.Prelude.{◌≡◌, Bool, true, false, List, [], ◌∷◌, ◌++◌, map, ℕ, zero, suc, ◌+◌, ◌*◌, ◌≤◌, ◌<◌, ◌^◌, eqb, length, get_or}
+use Rattle.std.specs.Prelude.{◌≡◌, true, false, List, [], ◌∷◌, ◌++◌, ℕ, zero, suc, ◌+◌, ◌≤◌, ◌<◌, ◌^◌, eqb, length, get_or}
 use Rattle.std.proofs.lemmas.List.Edits.{sets}
 use Rattle.types_rules.specs.Classes.{rep}
 use Rattle.types_rules.specs.Equations.{Pairs}
 use Rattle.types_rules.specs.Words.{second, words}
-use Rattle.types_rules.specs.Former.{tag, Former, binding, given, identifiers, int, parameter, power, product}
-use Rattle.types_rules.specs.Types.{Ty, Tys, node, tcons, tnil}
+use Rattle.types_rules.specs.Former.{tag, Former}
+use Rattle.types_rules.specs.Types.{Ty}
 use Rattle.types_cells.specs.Layout.{max_cells, settled_from}
-use Rattle.types_cells.specs.Store.{frozen, tag_at, arg_at, first_at, count_at, Held}
+use Rattle.types_cells.specs.Store.{frozen, tag_at, arg_at, first_at, count_at}
 use Rattle.types_cells.specs.Settled.{heap, word_at, Reads}
 use Rattle.types_solver.specs.Sizes.{mark_at, Model}
 

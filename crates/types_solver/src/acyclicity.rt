@@ -48,15 +48,12 @@ fn visit(a: &mut [u32], i: usize) -> bool
     let k = arity(a, i);
     store(a, MARKS + i, VISITING as u32);
     let mut sum = 1;
-    let mut j = 0;
-    while j < k {
+    for j in 0..k {
         let c = part(a, i, j);
-        if visit(a, c) {
-            sum = capped(sum + word(a, MARKS + c));
-            j += 1;
-        } else {
+        if !visit(a, c) {
             return false;
         }
+        sum = capped(sum + word(a, MARKS + c));
     }
     store(a, MARKS + i, sum as u32);
     true
@@ -66,11 +63,8 @@ fn visit_all(a: &mut [u32], n: usize) -> bool
     requires { Read a.old n }
     ensures { Visits a.old a.new n result }
 {
-    let mut i = 0;
-    while i < n {
-        if visit(a, i) {
-            i += 1;
-        } else {
+    for i in 0..n {
+        if !visit(a, i) {
             return false;
         }
     }
@@ -81,10 +75,8 @@ fn clear_marks(a: &mut [u32], n: usize)
     requires { Read a.old n }
     ensures { Cleared a.old a.new n }
 {
-    let mut i = 0;
-    while i < n {
+    for i in 0..n {
         store(a, MARKS + i, 0);
-        i += 1;
     }
 }
 

@@ -1,5 +1,5 @@
 // Finding 35: the component of a type.
-ghost use Rattle.std.specs.Prelude.{◌≡◌, ◌<◌};
+ghost use Rattle.std.specs.Prelude.{◌≡◌, ◌<◌, MatchOption};
 ghost use Rattle.types_cells.specs.Store.{frozen, tag_at, run};
 ghost use Rattle.types_cells.specs.Settled.{Reading, Component};
 ghost use Rattle.types_solver.specs.Answers.{FirstPlace, LookingRoot, Looking, Looked};
@@ -21,30 +21,26 @@ fn settled_component(a: &[u32], d: &[u32], p: usize, id: usize) -> usize
     }
     let n = type_word(a, d, p + 1);
     let mut at = p + 2;
-    let mut j = 0;
-    while j < n {
+    for j in 0..n {
         if type_word(a, d, at) == id {
             return at + 1;
         }
         at = skip(a, d, at + 1);
-        j += 1;
     }
     0
 }
 
-// The place of x among the k words at p: its number, and k where it is not there.
-fn place(a: &[u32], p: usize, k: usize, x: usize) -> usize
+// The number of the word x among the k words at p, or None where it is not there.
+fn place(a: &[u32], p: usize, k: usize, x: usize) -> Option<usize>
     requires { Runs (frozen a.now) p p k }
-    ensures { FirstPlace (run (frozen a.now) p k) k x result }
+    ensures { MatchOption result (FirstPlace (run (frozen a.now) p k) k x k) (λ j. (j < k) × FirstPlace (run (frozen a.now) p k) k x j) }
 {
-    let mut j = 0;
-    while j < k {
+    for j in 0..k {
         if held(a, p + j) == x {
-            return j;
+            return Some(j);
         }
-        j += 1;
     }
-    k
+    None
 }
 
 // The component id of the former at r, a representative: its cell plus 1, and 0 where there is none.
@@ -52,16 +48,15 @@ fn former_component(a: &[u32], d: &[u32], r: usize, id: usize) -> usize
     requires { (LookingRoot a.now d.now r) × (0 < tag_at (frozen a.now) r) }
     ensures { Looked a.now d.now r id result }
 {
-    if field(a, r, TAG) == type_tags::BINDING {
-        let p = field(a, r, ARGUMENT);
-        let k = field(a, r, COUNT);
-        let j = place(a, p, k, id);
-        if j < k {
-            return part(a, r, j) + 1;
-        }
+    if field(a, r, TAG) != type_tags::BINDING {
         return 0;
     }
-    0
+    let p = field(a, r, ARGUMENT);
+    let k = field(a, r, COUNT);
+    match place(a, p, k, id) {
+        Some(j) => part(a, r, j) + 1,
+        None => 0,
+    }
 }
 
 // The component id of the unknown r, a representative: SETTLED plus the place of its type, and 0 where there is none.

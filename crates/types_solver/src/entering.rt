@@ -89,6 +89,7 @@ fn put_part(
 }
 
 // The parts at `at`, from number j of m on: their cells stand at the top that is returned, their identifiers after them.
+// A recursion: the run is written when all parts have entered, and each call holds its part's cell till then.
 #[cycle(enter_enter_parts)]
 fn enter_parts(
     a: &mut [u32],

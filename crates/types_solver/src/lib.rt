@@ -8,7 +8,7 @@ pub mod openness;
 pub mod sizes;
 pub mod writing;
 
-ghost use Rattle.std.specs.Prelude.{ℕ, ◌+◌, ◌≤◌, length};
+ghost use Rattle.std.specs.Prelude.{ℕ, ◌≤◌, length};
 ghost use Rattle.types_cells.specs.Store.{run};
 ghost use Rattle.types_solver.specs.Equation.{Equating, MergedAll, Equation};
 
@@ -17,27 +17,20 @@ use codes::findings;
 use types_cells::links::flatten;
 use types_unifier::unification::merge;
 
-// The equations between the q cells in the words of `parts` from j on and the cells y, y + step, .., beside those that are solved: false where two different
-// formers then stand side by side.
-fn merge_all(
-    a: &mut [u32],
-    d: &[u32],
-    parts: &[u32],
-    j: usize,
-    q: usize,
-    y: usize,
-    step: usize,
-) -> bool
-    requires { (j + q ≤ length parts.now) × ((n : ℕ) × Equating a.old d.now n (run parts.now j q) y step) }
-    ensures { MergedAll a.old a.new d.now (run parts.now j q) y step result }
+// The equations between the cells in `parts` and the cells y, y + step, .., beside those that are solved: false where two different formers then stand side by
+// side.
+fn merge_all(a: &mut [u32], d: &[u32], parts: &[u32], y: usize, step: usize) -> bool
+    requires { (n : ℕ) × Equating a.old d.now n parts.now y step }
+    ensures { MergedAll a.old a.new d.now parts.now y step result }
 {
-    if q == 0 {
-        return true;
+    let mut cell = y;
+    for part in parts {
+        if !merge(a, d, *part as usize, cell) {
+            return false;
+        }
+        cell += step;
     }
-    if merge(a, d, parts[j] as usize, y) {
-        return merge_all(a, d, parts, j + 1, q - 1, y + step, step);
-    }
-    false
+    true
 }
 
 // The equations between the q cells in the first words of `parts` and the cells y, y + step, .., of the n, all together, beside those that are solved: 0 where
@@ -54,7 +47,7 @@ pub fn equate(
     requires { (q ≤ length parts.now) × Equating a.old d.now n (run parts.now 0 q) y step }
     ensures { Equation a.old a.new d.now n (run parts.now 0 q) y step result }
 {
-    if merge_all(a, d, parts, 0, q, y, step) {
+    if merge_all(a, d, &parts[..q], y, step) {
         flatten(a, n);
         if finite(a, n) {
             return 0;

@@ -30,13 +30,11 @@ pub fn left_open(a: &[u32], n: usize) -> bool
     requires { Read a.now n }
     ensures { Left a.now n result }
 {
-    let mut i = 0;
-    while i < n {
+    for i in 0..n {
         let r = find(a, i);
         if is_open(a, r) {
             return true;
         }
-        i += 1;
     }
     false
 }

@@ -33,12 +33,10 @@ pub fn type_size(a: &[u32], d: &[u32], p: usize) -> usize
     let n = parts_of(a, d, t, p);
     let mut at = p + lead_words(t);
     let mut sum = 1;
-    let mut j = 0;
-    while j < n {
+    for j in 0..n {
         let q = at + w;
         sum = capped(sum + type_size(a, d, q));
         at = skip(a, d, q);
-        j += 1;
     }
     sum
 }
@@ -69,10 +67,8 @@ pub fn cell_size(a: &[u32], d: &[u32], i: usize) -> usize
     }
     let k = field(a, r, COUNT);
     let mut sum = 1;
-    let mut j = 0;
-    while j < k {
+    for j in 0..k {
         sum = capped(sum + cell_size(a, d, part(a, r, j)));
-        j += 1;
     }
     sum
 }

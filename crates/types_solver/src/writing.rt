@@ -1,8 +1,8 @@
 // Types written as words.
-ghost use Rattle.std.specs.Prelude.{◌<◌, ◌^◌};
-ghost use Rattle.types_cells.specs.Layout.{max_cells};
-ghost use Rattle.types_cells.specs.Store.{frozen};
-ghost use Rattle.types_cells.specs.Settled.{Reading};
+ghost use Rattle.std.specs.Prelude.{◌≡◌, ◌+◌, ◌<◌, ◌≤◌, ◌^◌, length};
+ghost use Rattle.types_cells.specs.Layout.{max_cells, area_size};
+ghost use Rattle.types_cells.specs.Store.{frozen, run};
+ghost use Rattle.types_cells.specs.Settled.{heap, Reading};
 ghost use Rattle.types_solver.specs.Written.{lead_at, name_at, Copied, Wrote, Writing, Typed, Leading};
 
 use codes::type_tags;
@@ -44,18 +44,24 @@ fn put_name(a: &[u32], out: &mut [u32], at: usize, r: usize, j: usize) -> usize
     at
 }
 
+// The k type words at p, from `at` on: where they end.
+pub fn put_words(a: &[u32], d: &[u32], p: usize, k: usize, out: &mut [u32], at: usize) -> usize
+    requires { (length a.now ≡ area_size) × (p + k ≤ length (heap a.now d.now)) × (p + k < 2 ^ 40) × (at + k < 2 ^ 41) }
+    ensures { Wrote out.old out.new at result (run (heap a.now d.now) p k) }
+{
+    for j in 0..k {
+        store(out, at + j, type_word(a, d, p + j) as u32);
+    }
+    at + k
+}
+
 // The type whose words stand at p, from `at` on: where it ends.
 pub fn put_type(a: &[u32], d: &[u32], out: &mut [u32], at: usize, p: usize) -> usize
     requires { (Reading a.now d.now p) × (at < 2 ^ 40) }
     ensures { Copied a.now d.now out.old out.new at p result }
 {
     let m = skip(a, d, p) - p;
-    let mut j = 0;
-    while j < m {
-        store(out, at + j, type_word(a, d, p + j) as u32);
-        j += 1;
-    }
-    at + m
+    put_words(a, d, p, m, out, at)
 }
 
 // The type of cell i, from `at` on: where it ends.
@@ -69,11 +75,9 @@ pub fn write(a: &[u32], d: &[u32], out: &mut [u32], at: usize, i: usize) -> usiz
     }
     let k = field(a, r, COUNT);
     let mut m = put_lead(a, out, at, r);
-    let mut j = 0;
-    while j < k {
+    for j in 0..k {
         m = put_name(a, out, m, r, j);
         m = write(a, d, out, m, part(a, r, j));
-        j += 1;
     }
     m
 }

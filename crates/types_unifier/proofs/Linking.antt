@@ -1,9 +1,9 @@
 -- One link, and what it keeps.
 use mathlib.Core.Path.{◌≡◌, refl, sym, ap, ap₂, subst, ◌∙◌}
 use mathlib.Core.Bool.{Bool, true, false}
-use mathlib.Core.List.{List, [], ◌∷◌, map}
+use mathlib.Core.List.{List, [], ◌∷◌}
 use mathlib.Core.Logic.{⊎_elim}
-use mathlib.Core.Option.{Option, some, none}
+use mathlib.Core.Option.{Option, some}
 use Prim.Native.Nat.{ℕ, zero, suc, ◌+◌, ◌*◌, ◌≤◌, ◌<◌}
 use native.Mathlib.Omega.{arith}
 use native.Mathlib.Nat.{eq-or-lt_of_le}
@@ -14,12 +14,11 @@ use borrow.Author.Tests.{eqb-true, eqb-false}
 use Rattle.types_rules.proofs.Closed.{closed_same, closed_shape, closed_unk, idem}
 use Rattle.types_rules.proofs.Follows.{all_in_lem, reps, zip_all}
 use Rattle.types_rules.proofs.Rational.{ZipSpec, rep_sat, zip_spec}
-use Rattle.types_rules.specs.Classes.{Closed, Wf, next, rep, zip_n}
-use Rattle.types_rules.specs.Equations.{AllP, In, InP, Pairs, Solves, end, pair}
-use Rattle.types_rules.specs.Follows.{Clash, Follows, View, matching, parts, shape, symmetric, unk}
-use Rattle.types_rules.specs.Former.{Former}
+use Rattle.types_rules.specs.Classes.{Closed, next, rep, zip_n}
+use Rattle.types_rules.specs.Equations.{AllP, In, Pairs, Solves, pair}
+use Rattle.types_rules.specs.Follows.{Clash, Follows, View, matching, parts, shape, symmetric}
 use Rattle.types_cells.specs.Layout.{max_cells, max_pending, links_at, pairs_at, seconds_at, area_size}
-use Rattle.types_cells.specs.Store.{frozen, link_at, field_at, tag_at, count_at, parts_at, former_at, view, Cell, load, free, weight, link_of, Both, Held, pending, Busy}
+use Rattle.types_cells.specs.Store.{frozen, link_at, tag_at, count_at, parts_at, former_at, view, Cell, load, free, weight, link_of, Both, Held, pending, Busy}
 use Rattle.types_cells.proofs.LinkLaws.{rep_below, held_same}
 use Rattle.types_cells.proofs.Words.{frozen_set, link_new, link_same}
 use Rattle.types_cells.proofs.Heads.{view_unk, view_shape, parts_length}

@@ -1,32 +1,34 @@
 -- What one turn of merging gives, in the words of the contracts.
-use mathlib.Core.Path.{◌≡◌, refl, sym, ap, ap₂, subst, ◌∙◌}
+use mathlib.Core.Path.{◌≡◌, refl, sym, ap, subst, ◌∙◌}
 use mathlib.Core.Bool.{Bool, true, false}
 use mathlib.Core.List.{List}
-use Prim.Native.Nat.{ℕ, zero, suc, ◌+◌, ◌*◌, ◌-◌, ◌≤◌, ◌<◌}
+use Prim.Native.Nat.{ℕ, zero, suc, ◌+◌, ◌*◌, ◌≤◌, ◌<◌}
 use native.Mathlib.Omega.{arith}
 use lib.Dec.{eqb}
 use lib.ListN.{length, get_or, set, length-set}
 use borrow.Author.Tests.{eqb-true, eqb-false}
 use Rattle.types_rules.proofs.Steps.{closed_add}
 use Rattle.types_rules.proofs.Terms.{bool_no}
-use Rattle.types_rules.specs.Classes.{Closed, rep}
-use Rattle.types_rules.specs.Equations.{AllP, InP, Pairs, end, pair}
-use Rattle.types_rules.specs.Follows.{Clash, Follows, View, matching, reflexive, stated, symmetric, transitive}
+use Rattle.types_rules.specs.Classes.{rep}
+use Rattle.types_rules.specs.Equations.{AllP, Pairs, end, pair}
+use Rattle.types_rules.specs.Follows.{Follows, View, matching, reflexive, stated, symmetric, transitive}
 use Rattle.types_cells.specs.Layout.{max_cells, max_pending, links_at, pairs_at, seconds_at, settled_from, area_size}
-use Rattle.types_cells.specs.Store.{frozen, link_at, tag_at, count_at, view, Cell, load, weight, Both, Held, Solved, pending, Busy}
+use Rattle.types_cells.specs.Store.{frozen, link_at, tag_at, count_at, view, Solved, pending, Busy}
 use Rattle.types_rules.specs.Equations.{Solves}
 use Rattle.types_rules.specs.Trees.{Extent, Tree, build}
 use Rattle.types_rules.proofs.Transfer.{follows_holds}
 use Rattle.types_rules.proofs.Trees.{build_parts}
 use Rattle.types_cells.specs.Calls.{Known, Root}
-use Rattle.types_cells.specs.Settled.{lower, word_at, Pinned, FitsIn, Kept}
+use Rattle.types_cells.specs.Settled.{lower, word_at, Pinned, FitsIn}
 use Rattle.types_unifier.specs.Comparing.{Two, Alike, Pushing, Pushed}
-use Rattle.types_unifier.specs.Merging.{Open, Next, Same, NoSolution, Turned, Popped, Tying, Tied, Drained, Asking, Merged, Done}
-use Rattle.types_unifier.proofs.Tying.{busy_solves, clash_none, unlinked_pinned, unlinked_obeys, linked_obeys, low₁, other₁, hit₁, busy_kept, alike_pinned, alike_to, alike_from, lower_front, free_pinned, free_to, free_from}
+use Rattle.types_unifier.specs.Merging.{Open, Next, Same, NoSolution, Turned, TurnedTo, Popped, Tying, Tied, Drained, Asking, Merged, Done}
+use Rattle.types_unifier.proofs.Tying.{busy_solves, clash_none, low₁, other₁, hit₁, busy_kept, alike_pinned, alike_to, alike_from, lower_front, free_pinned, free_to, free_from}
 use Rattle.types_cells.proofs.Growing.{lt_or_ge}
 use mathlib.Core.Logic.{⊎_elim}
+use Rattle.std.specs.Bool.{then_some}
+use Rattle.std.specs.Prelude.{Option}
 use Rattle.types_cells.proofs.LinkLaws.{held_same}
-use Rattle.types_cells.proofs.Words.{frozen_length, frozen_set, link_same}
+use Rattle.types_cells.proofs.Words.{frozen_length, link_same}
 use Rattle.types_unifier.proofs.PendingLaws.{pushed, push_pending, push_frozen, push_front}
 use Rattle.types_unifier.proofs.Linking.{
   weight_same,
@@ -49,6 +51,21 @@ use Rattle.types_unifier.proofs.Linking.{
 
 pub pos : {r t : ℕ} → r ≡ t → (r ≡ 0 → ⊥) → 0 < t
 pos e ne = omega arith
+
+-- The answer b of a step, with the r pairs that are left.
+pub turned_some : (s s' d : List ℕ) (k r : ℕ) (b : Bool) (o : Option ℕ) → o ≡ then_some b r → Turned s s' d k b r → TurnedTo s s' d k o
+turned_some s s' d k r b o e T = subst (TurnedTo s s' d k) (sym e) (go b T)
+  where
+    go : (b : Bool) → Turned s s' d k b r → TurnedTo s s' d k (then_some b r)
+    go true X = X
+    go false X = record {
+      still = X.still;
+      low = X.low;
+      falls = λ f. absurd (bool_no false f refl);
+      goes = λ f. absurd (bool_no false f refl);
+      same = λ f. absurd (bool_no false f refl);
+      stops = X.stops;
+    }
 
 -- The two ends of the newest pair are cells.
 module _ (s d : List ℕ) (k : ℕ) (o : Open s d (suc k)) where
@@ -160,7 +177,7 @@ module _ (s d : List ℕ) (k x y : ℕ) (p : Popped s d k x y) where
       shaped_y = ty;
     }
 
-    pub apart_turned : (Alike (frozen s) x y → ⊥) → Turned s s d (suc k) false k
+    pub apart_turned : (Alike (frozen s) x y → ⊥) → Turned s s d (suc k) false 0
     apart_turned d' = record {
       still = refl;
       low = refl;
@@ -300,15 +317,6 @@ pub record Draining (s t d : List ℕ) (k : ℕ) : Type 0 where
   pub low : lower t ≡ lower s
   pub next : (n : ℕ) (P₀ L : Pairs ℕ) → Busy s n P₀ L 1 → Pinned s d n → Next t n P₀ k
   pub same : (n : ℕ) (P₀ L : Pairs ℕ) → Busy s n P₀ L 1 → Pinned s d n → Same s t d n P₀
-
-pub draining_start : (s d : List ℕ) → Draining s s d 1
-draining_start s d = record {
-  size = refl;
-  still = refl;
-  low = refl;
-  next = λ n P₀ L B P. record { L = L; busy = B };
-  same = λ n P₀ L B P. record { pinned = P; to = λ ε σ F S O. O; from = λ ε σ F S O. O };
-}
 
 module _ (s t u d : List ℕ) (k j r : ℕ) (b : Bool) (D : Draining s t d k) (e : k ≡ suc j) (T : Turned t u d (suc j) b r) where
   busy_j : (n : ℕ) (P₀ L : Pairs ℕ) (B : Busy s n P₀ L 1) (P : Pinned s d n) → Busy t n P₀ (D.next n P₀ L B P).L (suc j)

@@ -1,26 +1,25 @@
 -- A settled cell linked to another, and what solutions make of it.
-use mathlib.Core.Path.{◌≡◌, refl, sym, ap, ap₂, subst, ◌∙◌}
+use mathlib.Core.Path.{◌≡◌, refl, sym, ap, subst, ◌∙◌}
 use mathlib.Core.Bool.{Bool, true, false}
-use mathlib.Core.List.{List, [], ◌∷◌, map}
-use mathlib.Core.Logic.{inl, inr}
+use mathlib.Core.List.{List}
 use Prim.Native.Nat.{ℕ, zero, suc, ◌+◌, ◌*◌, ◌-◌, ◌≤◌, ◌<◌}
 use native.Mathlib.Omega.{arith}
 use lib.Dec.{eqb}
-use lib.ListN.{length, get_or, set, length-set, take, length-take}
+use lib.ListN.{length, get_or, set, take, length-take}
 use lib.Seq.{get_or-set_same, get_or-set_other, get_or-take, take-set-le, ext_get_or}
 use borrow.Author.Tests.{eqb-true, eqb-false}
 use Rattle.types_rules.proofs.Terms.{bool_no}
 use Rattle.types_rules.proofs.Follows.{map_len}
 use Rattle.types_rules.proofs.Transfer.{follows_holds}
 use Rattle.types_rules.proofs.Trees.{build_former, build_parts}
-use Rattle.types_rules.specs.Equations.{AllP, Pairs, Solves, pair}
+use Rattle.types_rules.specs.Equations.{AllP, Pairs, Solves}
 use Rattle.types_rules.specs.Follows.{Clash, Follows}
 use Rattle.types_rules.specs.Trees.{Extent, Tree, build, whole}
 use Rattle.types_rules.specs.Types.{Ty}
 use Rattle.types_cells.specs.Layout.{max_cells, pool_size, links_at, pairs_at, seconds_at, settled_from, area_size}
-use Rattle.types_cells.specs.Store.{frozen, link_at, tag_at, view, weight, Held, pending, Busy}
+use Rattle.types_cells.specs.Store.{frozen, tag_at, view, pending, Busy}
 use Rattle.types_cells.specs.Settled.{lower, heap, Reads, Readable, word_at, Pinned, ObeysIn, FitsIn, Kept, Pinning, Pin}
-use Rattle.types_unifier.specs.Merging.{Same, NoSolution, Tying, Tied}
+use Rattle.types_unifier.specs.Merging.{Tying, Tied}
 use Rattle.types_cells.proofs.Words.{frozen_set}
 use Rattle.types_unifier.proofs.Linking.{weight_same, busy}
 use Rattle.types_cells.proofs.Solutions.{sat_all}

@@ -1,8 +1,8 @@
 -- A former met with a type: its parts are given the type's parts, one after the other.
 use mathlib.Core.Path.{◌≡◌, refl, sym, ap, ap₂, subst, ◌∙◌}
 use mathlib.Core.Bool.{Bool, true, false}
-use mathlib.Core.List.{List, [], ◌∷◌, map}
-use Prim.Native.Nat.{ℕ, zero, suc, ◌+◌, ◌-◌, ◌≤◌, ◌<◌}
+use mathlib.Core.List.{List, ◌∷◌, map}
+use Prim.Native.Nat.{ℕ, suc, ◌+◌, ◌-◌, ◌≤◌, ◌<◌}
 use native.Mathlib.Omega.{arith}
 use lib.Dec.{eqb}
 use lib.ListN.{length, get_or, length-map}
@@ -11,21 +11,21 @@ use Rattle.types_rules.proofs.Rational.{cons_0, cons_1, rep_sat}
 use Rattle.types_rules.proofs.Terms.{bool_no}
 use Rattle.types_rules.proofs.Trees.{build_former, build_parts, whole_node, wholes}
 use Rattle.types_rules.specs.Classes.{rep}
-use Rattle.types_rules.specs.Equations.{Pairs, Solves, In}
+use Rattle.types_rules.specs.Equations.{Pairs, Solves}
 use Rattle.types_rules.specs.Former.{Former, identifiers}
 use Rattle.types_rules.specs.Trees.{Extent, Tree, build, whole}
 use Rattle.types_rules.specs.Types.{Ty, Tys, node, tnil, tcons}
 use Rattle.types_rules.specs.Formed.{part_count_type}
 use Rattle.types_rules.specs.Words.{words}
-use Rattle.types_cells.specs.Store.{frozen, tag_at, former_at, count_at, first_at, parts_at, run, view, Cell, Held}
-use Rattle.types_cells.specs.Calls.{Root, Tells}
-use Rattle.types_cells.specs.Settled.{heap, Reads, Readable, name_words, lead_words, Pinned, ObeysIn, FitsIn, Ends, Kept, Pinning, Adds, Pin}
+use Rattle.types_cells.specs.Store.{frozen, tag_at, former_at, count_at, first_at, parts_at, run, Held}
+use Rattle.types_cells.specs.Calls.{Root}
+use Rattle.types_cells.specs.Settled.{heap, Reads, name_words, lead_words, Pinned, ObeysIn, FitsIn, Ends, Kept, Pinning, Adds, Pin}
 use Rattle.types_unifier.specs.Meeting.{Meeting, SameFormer}
 use Rattle.types_cells.proofs.LinkLaws.{rep_below}
 use Rattle.types_cells.proofs.Words.{run_cons, run_length, run_at, get_d_in}
 use Rattle.types_cells.proofs.Heads.{view_shape}
 use Rattle.types_cells.specs.Parts.{Rest}
-use Rattle.types_cells.proofs.Reading.{Part, part_next, rest_start, place_low, inside}
+use Rattle.types_cells.proofs.Reading.{part_next, rest_start, place_low}
 use Rattle.types_unifier.proofs.MeetingLaws.{like_tag}
 use Rattle.types_cells.proofs.SettlingLaws.{heap_kept, kept_refl, kept_on, kept_held}
 

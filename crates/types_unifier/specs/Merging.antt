@@ -1,6 +1,6 @@
 -- What merging asks and promises. The ghost values n, P₀, L are those of any reading of the area: a function asks that there is one, and promises for each.
 -- The solutions of a store are the assignments σ of types, or of possibly infinite types, to its cells that fit the formers, solve the equations P₀, and obey the settled cells.
-use Rattle.std.specs.Prelude.{◌≡◌, Bool, true, false, List, ℕ, suc, ◌+◌, ◌*◌, ◌≤◌, ◌<◌, ◌^◌, length, get_or, set}
+use Rattle.std.specs.Prelude.{◌≡◌, Bool, true, false, List, Option, MatchOption, ℕ, suc, ◌+◌, ◌*◌, ◌<◌, ◌^◌, length, get_or, set}
 use Rattle.types_rules.specs.Equations.{Pairs, Solves, pair}
 use Rattle.types_rules.specs.Trees.{Extent, Tree}
 use Rattle.types_cells.specs.Layout.{max_cells, links_at, pairs_at, seconds_at, area_size}
@@ -39,6 +39,10 @@ pub record Turned (s s' d : List ℕ) (k : ℕ) (fine : Bool) (r : ℕ) : Type 0
   pub goes : fine ≡ true → (n : ℕ) (P₀ L : Pairs ℕ) → Busy s n P₀ L k → Pinned s d n → Next s' n P₀ r
   pub same : fine ≡ true → (n : ℕ) (P₀ L : Pairs ℕ) → Busy s n P₀ L k → Pinned s d n → Same s s' d n P₀
   pub stops : fine ≡ false → (n : ℕ) (P₀ L : Pairs ℕ) → Busy s n P₀ L k → Pinned s d n → NoSolution s d n P₀
+
+-- The same, by the answer: the number of pairs that are left, or none where there is no solution.
+abbrev pub TurnedTo : List ℕ → List ℕ → List ℕ → ℕ → Option ℕ → Type 0
+TurnedTo s s' d k o = MatchOption o (Turned s s' d k false 0) (Turned s s' d k true)
 
 -- Two representatives, of the pair that was popped.
 pub record Popped (s d : List ℕ) (k x y : ℕ) : Type 0 where

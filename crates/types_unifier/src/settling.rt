@@ -15,13 +15,11 @@ fn same_names(a: &[u32], d: &[u32], r: usize, p: usize, n: usize) -> bool
 {
     let ids = field(a, r, ARGUMENT);
     let mut at = p + 2;
-    let mut j = 0;
-    while j < n {
+    for j in 0..n {
         if held(a, ids + j) != type_word(a, d, at) {
             return false;
         }
         at = skip(a, d, at + 1);
-        j += 1;
     }
     true
 }
@@ -78,15 +76,12 @@ pub fn pin(a: &mut [u32], d: &[u32], c: usize, p: usize) -> bool
         let n = field(a, r, COUNT);
         let w = name_words(t);
         let mut at = p + lead_words(t);
-        let mut j = 0;
-        while j < n {
+        for j in 0..n {
             let q = at + w;
-            if pin(a, d, part(a, r, j), q) {
-                at = skip(a, d, q);
-                j += 1;
-            } else {
+            if !pin(a, d, part(a, r, j), q) {
                 return false;
             }
+            at = skip(a, d, q);
         }
         return true;
     }

@@ -4,7 +4,7 @@ ghost use Rattle.types_cells.specs.Layout.{max_pending, pairs_at, seconds_at};
 ghost use Rattle.types_cells.specs.Store.{frozen, run};
 ghost use Rattle.types_cells.specs.Calls.{Tells, Runs};
 ghost use Rattle.types_unifier.specs.Comparing.{Two, Alike, Pushing, Pushed};
-ghost use Rattle.types_unifier.specs.Merging.{Open, Turned, Popped, Tied, Tying, Drained, Asking, Merged};
+ghost use Rattle.types_unifier.specs.Merging.{Open, TurnedTo, Popped, Tied, Tying, Drained, Asking, Merged};
 
 use crate::settling::pin;
 use codes::type_tags;
@@ -14,23 +14,15 @@ use types_cells::area::{
 use types_cells::links::{find, set_link};
 use words::{store, word};
 
-#[derive(Clone, Copy)]
-pub struct Step {
-    pub fine: bool,
-    pub left: usize,
-}
-
 // The k words at p are those at q.
 fn same_run(a: &[u32], p: usize, q: usize, k: usize) -> bool
     requires { Runs (frozen a.now) p q k }
     ensures { Tells result (run (frozen a.now) p k ≡ run (frozen a.now) q k) }
 {
-    let mut j = 0;
-    while j < k {
+    for j in 0..k {
         if held(a, p + j) != held(a, q + j) {
             return false;
         }
-        j += 1;
     }
     true
 }
@@ -71,12 +63,10 @@ fn push_parts(a: &mut [u32], k: usize, x: usize, y: usize) -> usize
     ensures { Pushed a.old a.new k x y result }
 {
     let m = field(a, x, COUNT);
-    let mut j = 0;
-    while j < m {
+    for j in 0..m {
         let p = part(a, x, j);
         let q = part(a, y, j);
         push(a, k + j, p, q);
-        j += 1;
     }
     k + m
 }
@@ -94,51 +84,33 @@ fn tie(a: &mut [u32], d: &[u32], x: usize, y: usize) -> bool
     pin(a, d, y, q - SETTLED)
 }
 
-// The representatives x and y, of the newest pair, are merged.
-fn join(a: &mut [u32], d: &[u32], k: usize, x: usize, y: usize) -> Step
+// The representatives x and y, of the newest pair, are merged: the number of pairs that are left, or None where there is no solution.
+fn join(a: &mut [u32], d: &[u32], k: usize, x: usize, y: usize) -> Option<usize>
     requires { Popped a.old d.now k x y }
-    ensures { Turned a.old a.new d.now (suc k) result.fine result.left }
+    ensures { TurnedTo a.old a.new d.now (suc k) result }
 {
     if field(a, x, TAG) == UNKNOWN {
-        let fine = tie(a, d, x, y);
-        return Step {
-            fine: fine,
-            left: k,
-        };
+        return tie(a, d, x, y).then_some(k);
     }
     if field(a, y, TAG) == UNKNOWN {
-        let fine = tie(a, d, y, x);
-        return Step {
-            fine: fine,
-            left: k,
-        };
+        return tie(a, d, y, x).then_some(k);
     }
     if same_head(a, x, y) {
         set_link(a, x, y);
-        let left = push_parts(a, k, x, y);
-        return Step {
-            fine: true,
-            left: left,
-        };
+        return Some(push_parts(a, k, x, y));
     }
-    Step {
-        fine: false,
-        left: k,
-    }
+    None
 }
 
-// One turn: the newest pair.
-fn turn(a: &mut [u32], d: &[u32], k: usize) -> Step
+// One turn, with the newest pair: the number of pairs that are left, or None where there is no solution.
+fn turn(a: &mut [u32], d: &[u32], k: usize) -> Option<usize>
     requires { Open a.old d.now (suc k) }
-    ensures { Turned a.old a.new d.now (suc k) result.fine result.left }
+    ensures { TurnedTo a.old a.new d.now (suc k) result }
 {
     let x = find(a, word(a, PAIRS + 2 * k));
     let y = find(a, word(a, SECONDS + 2 * k));
     if x == y {
-        return Step {
-            fine: true,
-            left: k,
-        };
+        return Some(k);
     }
     join(a, d, k, x, y)
 }
@@ -149,13 +121,12 @@ fn drain(a: &mut [u32], d: &[u32]) -> bool
     ensures { Drained a.old a.new d.now 1 result }
 {
     let mut k = 1;
+    // A while: each turn says how many pairs are left.
     while 0 < k {
-        let t = turn(a, d, k - 1);
-        if t.fine {
-            k = t.left;
-        } else {
+        let Some(left) = turn(a, d, k - 1) else {
             return false;
-        }
+        };
+        k = left;
     }
     true
 }

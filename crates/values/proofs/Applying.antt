@@ -1,8 +1,7 @@
 -- Apply on words is Apply of values: the place that is found holds the words of the image.
 use Rattle.std.proofs.Common.{◌≡◌, ℕ, suc, ◌+◌, ◌≤◌, Bool, true, false, cond, List, [], ◌∷◌, ◌++◌, length, take, drop, sym, refl, ap, ◌∙◌, append_assoc, append-nil, arith, length-append, drop-drop, take_at, drop_at, ne_eqb}
 use mathlib.Core.Bool.{false≢true}
-use Rattle.values.specs.declared.sets.Applied.{Applied}
-use Rattle.values.specs.declared.sets.Applied.TheVariants.{Found, Misfit, Undefined}
+use Rattle.values.specs.Applied.{Applied, Found, Misfit, Undefined}
 use Rattle.values.specs.Value.{Value, int, element, set, tuple, Values, nil, cons, count, encode, encodes}
 use Rattle.values.specs.Sets.{first, is_pair, are_pairs, places, second, only_place, apply}
 use Rattle.values.specs.SetValues.{same_value, Image, found, misfit, undefined, is_pair_value, all_pairs, images, only_one, apply_value}

@@ -74,16 +74,6 @@ module _ (u w ws : List ℕ) (at : ℕ) (b : Building u at ws) where
   shorter : length (ws ++ w) ≤ 64 → length ws ≤ 64
   shorter l = omega (arith, length-append ws w)
 
-  pub put_past : length u < at → Building u at (ws ++ w)
-  put_past h =
-      let no : length ws ≤ 64 → ⊥ = λ l. omega (arith, h, room l, b.end l) in
-      record { words = λ l. absurd (no (shorter l)); end = λ l. absurd (no (shorter l)); past = λ l. fits_or (λ k. absurd (no k)) (λ p. p) }
-
-  pub put_over : at ≤ length u → length u - at < length w → Building u 65 (ws ++ w)
-  put_over p h =
-      let no : length (ws ++ w) ≤ 64 → ⊥ = λ l. omega (arith, h, p, room (shorter l), b.end (shorter l), length-append ws w) in
-      record { words = λ l. absurd (no l); end = λ l. absurd (no l); past = λ l. omega arith }
-
   pub put_fits : at + length w ≤ length u → Building (sets u at w) (at + length w) (ws ++ w)
   put_fits h =
       record {

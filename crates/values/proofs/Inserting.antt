@@ -1,10 +1,9 @@
 -- Membership and insertion on words are membership and insertion of values, and insertion keeps a set well formed.
-use Rattle.std.proofs.Common.{◌≡◌, ℕ, suc, ◌+◌, ◌^◌, ◌<◌, ◌≤◌, Bool, true, false, cond, List, [], ◌∷◌, ◌++◌, length, ℤ, pos, negsuc, refl, ap, ◌∙◌, true≢false, append_assoc, mod-eq_of_lt, arith, length-append, take_at, drop_at, ltb-true, le-ltb}
+use Rattle.std.proofs.Common.{◌≡◌, ℕ, suc, ◌+◌, ◌^◌, ◌<◌, ◌≤◌, Bool, true, false, cond, List, [], ◌∷◌, ◌++◌, length, ℤ, pos, negsuc, refl, ap, ◌∙◌, true≢false, append_assoc, mod-eq_of_lt, arith, length-append, take_at, drop_at, ltb-true, le-ltb, None, Some}
 use mathlib.Core.Bool.{false≢true}
 use lib.Signed.{lt_z}
-use Rattle.values.specs.declared.order.Order.{Order}
-use Rattle.values.specs.declared.order.Order.TheVariants.{Less, Same, Greater}
-use Rattle.values.specs.declared.sets.Place.TheVariants.{At, Already}
+use Rattle.std.specs.declared.cmp.Ordering.{Ordering}
+use Rattle.std.specs.declared.cmp.Ordering.TheVariants.{Less, Equal, Greater}
 use Rattle.values_integers.specs.Integer.{signed}
 use Rattle.values.specs.Order.{compare_word, or_else, compare, is_less}
 use Rattle.values.specs.Value.{Value, int, element, set, tuple, Values, nil, cons, count, encode, encodes}
@@ -30,7 +29,7 @@ member_value vs v h = among_values vs v (omega arith)
 
 -- ---- insertion
 
-at_place : (pre l m : List ℕ) (n : ℕ) → n + 1 < 2 ^ 32 → insert_at (At (2 + length pre)) (3 ∷ n ∷ (pre ++ l)) m ≡ 3 ∷ (n + 1) ∷ (pre ++ (m ++ l))
+at_place : (pre l m : List ℕ) (n : ℕ) → n + 1 < 2 ^ 32 → insert_at (Some (2 + length pre)) (3 ∷ n ∷ (pre ++ l)) m ≡ 3 ∷ (n + 1) ∷ (pre ++ (m ++ l))
 unfolding insert_at
 at_place pre l m n h =
     let e : 2 + length pre ≡ suc (suc (length pre)) = omega arith in
@@ -40,7 +39,7 @@ step_place : (w : Value) (r m : List ℕ) (n at : ℕ) → length (encode w) ≤
 unfolding place_from
 step_place w r m n at h = rw (place_from, first_value w r h, span_value w r h, rest_value w r h)
 
-already : (s m : List ℕ) → insert_at Already s m ≡ s
+already : (s m : List ℕ) → insert_at None s m ≡ s
 unfolding insert_at
 already s m = refl
 
@@ -58,14 +57,14 @@ insert_values (cons w ws) v pre n c h e k =
     (go (compare (encode v) (encode w))
     (rw (append_assoc pre (encode w) (encodes ws), append_assoc pre (encode w) (encodes (insert_value v ws)), ← a) at (insert_values ws v (pre ++ encode w) n (suc c) (omega arith) (omega arith) k)))
   where
-    go : (o : Order) →
+    go : (o : Ordering) →
         insert_at (place_from (count ws) (2 + length pre + length (encode w)) (encodes ws) (encode v)) (3 ∷ n ∷ (pre ++ (encode w ++ encodes ws))) (encode v) ≡ 3 ∷ (suc c + count (insert_value v ws)) ∷ (pre ++ (encode w ++ encodes (insert_value v ws))) →
         insert_at (choose o (2 + length pre) (place_from (count ws) (2 + length pre + length (encode w)) (encodes ws) (encode v))) (3 ∷ n ∷ (pre ++ (encode w ++ encodes ws))) (encode v)
         ≡ 3 ∷ (c + count (insert_by o v w ws (insert_value v ws))) ∷ (pre ++ encodes (insert_by o v w ws (insert_value v ws)))
     go Less more =
         let q : n + 1 ≡ c + suc (suc (count ws)) = omega arith in
         at_place pre (encode w ++ encodes ws) (encode v) n k ∙ ap (λ (x : ℕ). 3 ∷ x ∷ (pre ++ (encode v ++ (encode w ++ encodes ws)))) q
-    go Same more = already (3 ∷ n ∷ (pre ++ (encode w ++ encodes ws))) (encode v) ∙ ap (λ (x : ℕ). 3 ∷ x ∷ (pre ++ (encode w ++ encodes ws))) e
+    go Equal more = already (3 ∷ n ∷ (pre ++ (encode w ++ encodes ws))) (encode v) ∙ ap (λ (x : ℕ). 3 ∷ x ∷ (pre ++ (encode w ++ encodes ws))) e
     go Greater more =
         let q : suc c + count (insert_value v ws) ≡ c + suc (count (insert_value v ws)) = omega arith in
         more ∙ ap (λ (x : ℕ). 3 ∷ x ∷ (pre ++ (encode w ++ encodes (insert_value v ws)))) q
@@ -80,9 +79,9 @@ insert_value_lem vs v h =
 
 -- ---- the order, the other way round
 
-unfoldable pub flip : Order → Order
+unfoldable pub flip : Ordering → Ordering
 flip Less = Greater
-flip Same = Same
+flip Equal = Equal
 flip Greater = Less
 
 not_both : (x y : ℤ) → lt_z x y ≡ true → lt_z y x ≡ false
@@ -95,16 +94,16 @@ flip_word : (a b : ℕ) → compare_word b a ≡ flip (compare_word a b)
 unfolding compare_word flip
 flip_word a b = go (lt_z (signed a) (signed b)) (lt_z (signed b) (signed a)) (not_both (signed a) (signed b))
   where
-    go : (p q : Bool) → (p ≡ true → q ≡ false) → cond q Less (cond p Greater Same) ≡ flip (cond p Less (cond q Greater Same))
+    go : (p q : Bool) → (p ≡ true → q ≡ false) → cond q Less (cond p Greater Equal) ≡ flip (cond p Less (cond q Greater Equal))
     go true true h = absurd (true≢false (h refl))
     go true false h = refl
     go false true h = refl
     go false false h = refl
 
-flip_else : (o p : Order) → or_else (flip o) (flip p) ≡ flip (or_else o p)
+flip_else : (o p : Ordering) → or_else (flip o) (flip p) ≡ flip (or_else o p)
 unfolding flip or_else
 flip_else Less p = refl
-flip_else Same p = refl
+flip_else Equal p = refl
 flip_else Greater p = refl
 
 pub compare_flip : (a b : List ℕ) → compare b a ≡ flip (compare a b)
@@ -125,9 +124,9 @@ unfolding ascends insert_value insert_by is_less
 insert_ascends nil v p h l = rw l
 insert_ascends (cons w ws) v p h l = go (compare (encode v) (encode w)) refl (λ g. insert_ascends ws v (encode w) (and_right (is_less (compare p (encode w))) _ h) g)
   where
-    go : (o : Order) → compare (encode v) (encode w) ≡ o → (is_less (compare (encode w) (encode v)) ≡ true → ascends (encode w) (insert_value v ws) ≡ true) → ascends p (insert_by o v w ws (insert_value v ws)) ≡ true
+    go : (o : Ordering) → compare (encode v) (encode w) ≡ o → (is_less (compare (encode w) (encode v)) ≡ true → ascends (encode w) (insert_value v ws) ≡ true) → ascends p (insert_by o v w ws (insert_value v ws)) ≡ true
     go Less e again = both (is_less (compare p (encode v))) _ l (both (is_less (compare (encode v) (encode w))) _ (rw e) (and_right (is_less (compare p (encode w))) _ h))
-    go Same e again = h
+    go Equal e again = h
     go Greater e again = both (is_less (compare p (encode w))) _ (and_left (is_less (compare p (encode w))) _ h) (again (above (encode v) (encode w) e))
 
 insert_good : (size : ℕ → ℕ) (vs : Values) (v : Value) → all_well_formed size vs ≡ true → well_formed size v ≡ true → all_well_formed size (insert_value v vs) ≡ true
@@ -135,9 +134,9 @@ unfolding well_formed insert_value insert_by
 insert_good size nil v h g = rw g
 insert_good size (cons w ws) v h g = go (compare (encode v) (encode w)) (insert_good size ws v (and_right (well_formed size w) _ h) g)
   where
-    go : (o : Order) → all_well_formed size (insert_value v ws) ≡ true → all_well_formed size (insert_by o v w ws (insert_value v ws)) ≡ true
+    go : (o : Ordering) → all_well_formed size (insert_value v ws) ≡ true → all_well_formed size (insert_by o v w ws (insert_value v ws)) ≡ true
     go Less again = both (well_formed size v) _ g h
-    go Same again = h
+    go Equal again = h
     go Greater again = both (well_formed size w) _ (and_left (well_formed size w) _ h) again
 
 nothing_below : (v : Value) → is_less (compare [] (encode v)) ≡ true

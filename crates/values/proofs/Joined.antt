@@ -3,15 +3,15 @@ use Rattle.std.proofs.Common.{◌≡◌, ℕ, ◌^◌, ◌<◌, List, [], ◌∷
 use Rattle.values_integers.specs.Integer.{signed}
 use Rattle.values.specs.Order.{compare_word, or_else, compare}
 use Rattle.values.specs.Value.{Value, int, element, set, tuple, Values, nil, cons, count, encode, encodes}
-use Rattle.values.specs.declared.order.Order.{Order}
-use Rattle.values.specs.declared.order.Order.TheVariants.{Less, Same, Greater}
+use Rattle.std.specs.declared.cmp.Ordering.{Ordering}
+use Rattle.std.specs.declared.cmp.Ordering.TheVariants.{Less, Equal, Greater}
 use Rattle.values.proofs.Encoding.{count_few}
 use Rattle.values.proofs.WordOrder.{word_alike}
 
-else_assoc : (o p q : Order) → or_else (or_else o p) q ≡ or_else o (or_else p q)
+else_assoc : (o p q : Ordering) → or_else (or_else o p) q ≡ or_else o (or_else p q)
 unfolding or_else
 else_assoc Less p q = refl
-else_assoc Same p q = refl
+else_assoc Equal p q = refl
 else_assoc Greater p q = refl
 
 -- lists of one length
@@ -24,13 +24,13 @@ level_join (x ∷ a) (y ∷ b) r s e =
     rw (level_join a b r s (omega arith)) (sym (else_assoc (compare_word x y) (compare a b) (compare r s)))
 
 -- a count, then what is compared after equal counts alone
-counted : (n m : ℕ) (p q o : Order) → n < 2 ^ 32 → m < 2 ^ 32 → (n ≡ m → p ≡ or_else q o) → or_else (compare_word n m) p ≡ or_else (or_else (compare_word n m) q) o
+counted : (n m : ℕ) (p q o : Ordering) → n < 2 ^ 32 → m < 2 ^ 32 → (n ≡ m → p ≡ or_else q o) → or_else (compare_word n m) p ≡ or_else (or_else (compare_word n m) q) o
 unfolding or_else
 counted n m p q o hn hm e = go (compare_word n m) refl
   where
-    go : (c : Order) → compare_word n m ≡ c → or_else c p ≡ or_else (or_else c q) o
+    go : (c : Ordering) → compare_word n m ≡ c → or_else c p ≡ or_else (or_else c q) o
     go Less f = refl
-    go Same f = e (word_alike n m hn hm f)
+    go Equal f = e (word_alike n m hn hm f)
     go Greater f = refl
 
 mutual

@@ -1,13 +1,11 @@
 -- One turn of each loop over a set's members: n members, i of them passed, the next at the place `at` of s.
-use Rattle.std.proofs.Common.{◌≡◌, ℕ, zero, suc, ◌+◌, ◌-◌, ◌<◌, ◌≤◌, true, false, cond, List, [], ◌∷◌, drop, refl, arith, drop-drop}
+use Rattle.std.proofs.Common.{◌≡◌, ℕ, zero, suc, ◌+◌, ◌-◌, ◌<◌, ◌≤◌, true, false, cond, List, [], ◌∷◌, drop, refl, arith, drop-drop, None, Some}
 use Rattle.words.proofs.Loops.{turn, none_left_lem}
 use Rattle.values.specs.Order.{compare, same}
 use Rattle.values.specs.Span.{span}
 use Rattle.values.specs.Sets.{first, rest, among, choose, place_from, is_pair, are_pairs, places, second, only_place}
-use Rattle.values.specs.declared.order.Order.TheVariants.{Less, Same, Greater}
-use Rattle.values.specs.declared.sets.Place.TheVariants.{At, Already}
-use Rattle.values.specs.declared.sets.Applied.{Applied}
-use Rattle.values.specs.declared.sets.Applied.TheVariants.{Misfit, Undefined}
+use Rattle.std.specs.declared.cmp.Ordering.TheVariants.{Less, Equal, Greater}
+use Rattle.values.specs.Applied.{Applied, Misfit, Undefined}
 
 pub rest_at : (s : List ℕ) (at : ℕ) → rest (drop at s) ≡ drop (at + span (drop at s)) s
 unfolding rest
@@ -26,11 +24,11 @@ module _ (s m : List ℕ) (n i at : ℕ) where
   unfolding among
   among_end h = rw (none_left_lem n i h)
 
-  pub place_less : i < n → compare m (first (drop at s)) ≡ Less → At at ≡ place_from (n - i) at (drop at s) m
+  pub place_less : i < n → compare m (first (drop at s)) ≡ Less → Some at ≡ place_from (n - i) at (drop at s) m
   unfolding place_from choose
   place_less h e = rw (turn n i h, place_from, e)
 
-  pub place_same : i < n → compare m (first (drop at s)) ≡ Same → Already ≡ place_from (n - i) at (drop at s) m
+  pub place_same : i < n → compare m (first (drop at s)) ≡ Equal → None ≡ place_from (n - i) at (drop at s) m
   unfolding place_from choose
   place_same h e = rw (turn n i h, place_from, e)
 
@@ -38,7 +36,7 @@ module _ (s m : List ℕ) (n i at : ℕ) where
   unfolding place_from choose
   place_go h e k f = rw (turn n i h, place_from, e, rest_at s at, f)
 
-  pub place_end : n ≤ i → At at ≡ place_from (n - i) at (drop at s) m
+  pub place_end : n ≤ i → Some at ≡ place_from (n - i) at (drop at s) m
   unfolding place_from
   place_end h = rw (none_left_lem n i h)
 

@@ -3,6 +3,7 @@ pub mod Value
 pub mod Order
 pub mod Span
 pub mod Held
+pub mod Applied
 pub mod Sets
 pub mod Givens
 pub mod Lookup

@@ -2,8 +2,8 @@
 use Rattle.std.specs.Prelude.{Bool, true, false, cond, ◌&&◌, ◌==◌}
 use Rattle.values.specs.Order.{compare, same}
 use Rattle.values.specs.Value.{Value, int, element, set, tuple, Values, nil, cons, count, encode}
-use Rattle.values.specs.declared.order.Order.{Order}
-use Rattle.values.specs.declared.order.Order.TheVariants.{Less, Same, Greater}
+use Rattle.std.specs.declared.cmp.Ordering.{Ordering}
+use Rattle.std.specs.declared.cmp.Ordering.TheVariants.{Less, Equal, Greater}
 
 -- = compares words
 unfoldable pub same_value : Value → Value → Bool
@@ -13,9 +13,9 @@ unfoldable pub is_in : Value → Values → Bool
 is_in v nil = false
 is_in v (cons w ws) = cond (same_value w v) true (is_in v ws)
 
-unfoldable pub insert_by : Order → Value → Value → Values → Values → Values
+unfoldable pub insert_by : Ordering → Value → Value → Values → Values → Values
 insert_by Less v w ws more = cons v (cons w ws)
-insert_by Same v w ws more = cons w ws
+insert_by Equal v w ws more = cons w ws
 insert_by Greater v w ws more = cons w more
 
 unfoldable pub insert_value : Value → Values → Values

@@ -12,20 +12,14 @@ use words::word;
 // The tag as a word.
 const INTEGER: u32 = value_tags::INTEGER as u32;
 
-// What a value is as an integer. `numberFinding` of specs/Numbers.antt has each case's number.
-#[derive(Clone, Copy)]
-pub enum Number {
-    Integer(i32),
-    Misfit,
-}
-
-pub fn number_of(w: &[u32]) -> Number
+// The integer that a value is. `number_finding` of specs/Numbers.antt has the number where it is none.
+pub fn number_of(w: &[u32]) -> Option<i32>
     ensures { result ≡ number_of w.now }
 {
     if word(w, 0) == value_tags::INTEGER {
-        return Number::Integer(signed(word(w, 1) as u32));
+        return Some(signed(word(w, 1) as u32));
     }
-    Number::Misfit
+    None
 }
 
 pub fn integer_value(z: i32) -> Held

@@ -5,25 +5,18 @@ ghost use Rattle.values.specs.Sets.{first, is_member, place, insert_at, insert, 
 
 use super::building::{built, put};
 use super::held::{Held, hold};
-use super::order::{Order, compare, same};
+use super::order::{compare, same};
 use super::span::{HEAD, span};
 use codes::{limits, value_tags};
+use std::cmp::Ordering;
 use words::{from, word};
 
 // The tag as a word.
 const SET: u32 = value_tags::SET as u32;
 
-// Where a member goes in a set: before the word at a place, or it is there already.
-#[derive(Clone, Copy)]
-pub enum Place {
-    At(usize),
-    Already,
-}
-
-// What Apply finds: the place and the number of words of a value. `applyFinding` of specs/Sets.antt has each case's number.
-#[derive(Clone, Copy)]
-pub enum Applied {
-    Found { at: usize, len: usize },
+// Why Apply finds no value. `apply_finding` of specs/Sets.antt has each case's number.
+#[derive(Clone, Copy, PartialEq, Eq)]
+pub enum NoImage {
     Misfit,
     Undefined,
 }
@@ -40,41 +33,35 @@ pub fn is_member(s: &[u32], m: &[u32]) -> bool
 {
     let n = word(s, 1);
     let mut at = HEAD;
-    let mut i = 0;
-    while i < n {
+    for _i in 0..n {
         let w = from(s, at);
         if same(first(w), m) {
             return true;
         }
         at += span(w);
-        i += 1;
     }
     false
 }
 
-fn place_of(s: &[u32], m: &[u32]) -> Place
+// Where a member goes in a set: before the word at a place, or nowhere, as it is there already.
+fn place_of(s: &[u32], m: &[u32]) -> Option<usize>
     ensures { result ≡ place s.now m.now }
 {
     let n = word(s, 1);
     let mut at = HEAD;
-    let mut i = 0;
-    while i < n {
+    for _i in 0..n {
         let w = from(s, at);
-        let o = compare(m, first(w));
-        match o {
-            Order::Less => return Place::At(at),
-            Order::Same => return Place::Already,
-            Order::Greater => {
-                at += span(w);
-                i += 1;
-            }
+        match compare(m, first(w)) {
+            Ordering::Less => return Some(at),
+            Ordering::Equal => return None,
+            Ordering::Greater => at += span(w),
         }
     }
-    Place::At(at)
+    Some(at)
 }
 
 fn insert_at(p: usize, s: &[u32], m: &[u32]) -> Held
-    ensures { result ≡ keep (insert_at (Place.At p) s.now m.now) }
+    ensures { result ≡ keep (insert_at (Some p) s.now m.now) }
 {
     let head = [SET, std::num::wrapping_add_u32(word(s, 1) as u32, 1)];
     let mut u = [0u32; limits::VALUE];
@@ -91,8 +78,8 @@ pub fn insert(s: &[u32], m: &[u32]) -> Held
 {
     let p = place_of(s, m);
     match p {
-        Place::Already => hold(s),
-        Place::At(at) => insert_at(at, s, m),
+        None => hold(s),
+        Some(at) => insert_at(at, s, m),
     }
 }
 
@@ -105,47 +92,41 @@ fn is_pair(w: &[u32]) -> bool
     false
 }
 
-// The second part of the pair at a place of f.
-fn second(f: &[u32], at: usize) -> Applied
+// The second part of the pair at a place of f: where it is, and how many words it has.
+fn second(f: &[u32], at: usize) -> Result<(usize, usize), NoImage>
     requires { at < 2 ^ 60 }
     ensures { result ≡ second f.now at }
 {
     let parts = from(f, at + HEAD);
     let k = span(parts);
     let len = span(from(parts, k));
-    Applied::Found {
-        at: at + HEAD + k,
-        len: len,
-    }
+    Ok((at + HEAD + k, len))
 }
 
 // The second part of the one pair of f whose first part is a. Every member is looked at: one that is no pair is a misfit wherever it stands.
-pub fn apply(f: &[u32], a: &[u32]) -> Applied
+pub fn apply(f: &[u32], a: &[u32]) -> Result<(usize, usize), NoImage>
     ensures { result ≡ apply f.now a.now }
 {
     if word(f, 0) != value_tags::SET {
-        return Applied::Misfit;
+        return Err(NoImage::Misfit);
     }
     let n = word(f, 1);
     let mut at = HEAD;
-    let mut i = 0;
     let mut hits: usize = 0;
     let mut hit = HEAD;
-    while i < n {
+    for _i in 0..n {
         let w = from(f, at);
-        if is_pair(w) {
-            if same(first(from(w, HEAD)), a) {
-                hits += 1;
-                hit = at;
-            }
-            at += span(w);
-            i += 1;
-        } else {
-            return Applied::Misfit;
+        if !is_pair(w) {
+            return Err(NoImage::Misfit);
         }
+        if same(first(from(w, HEAD)), a) {
+            hits += 1;
+            hit = at;
+        }
+        at += span(w);
     }
     if hits == 1 {
         return second(f, hit);
     }
-    Applied::Undefined
+    Err(NoImage::Undefined)
 }

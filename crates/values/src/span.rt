@@ -41,15 +41,13 @@ pub fn span(w: &[u32]) -> usize
 {
     let mut at = 0;
     let mut left = 1;
-    let mut i: usize = 0;
-    while i < HEADS {
+    for _i in 0..HEADS {
         if left == 0 {
             return at;
         }
         let h = head(w, at);
         left = parts(w, at) + left - 1;
         at += h;
-        i += 1;
     }
     at
 }

@@ -5,7 +5,7 @@ ghost use Rattle.values.specs.Form.{element_shape, group_shape, shape_of, follow
 
 use super::givens::size_of;
 use codes::{limits, value_tags};
-use values::order::{compare, is_less};
+use values::order::compare;
 use values::shapes::Shape;
 use values::span::{ELEMENT_WORDS, HEAD, HEADS};
 use values_integers::integer;
@@ -71,7 +71,7 @@ fn follows(ascending: bool, p: &[u32], m: &[u32]) -> bool
     ensures { result ≡ follows ascending p.now m.now }
 {
     if ascending {
-        return is_less(compare(p, m));
+        return compare(p, m).is_lt();
     }
     true
 }
@@ -84,19 +84,16 @@ fn group_end(givens: &[u32], w: &[u32], n: usize, ascending: bool, depth: usize)
 {
     let mut last = HEAD;
     let mut at = HEAD;
-    let mut i = 0;
-    while i < n {
+    for _i in 0..n {
         let k = value_length(givens, from(w, at), depth);
         if k == 0 {
             return 0;
         }
-        if follows(ascending, span(w, last, at - last), span(w, at, k)) {
-            last = at;
-            at += k;
-            i += 1;
-        } else {
+        if !follows(ascending, span(w, last, at - last), span(w, at, k)) {
             return 0;
         }
+        last = at;
+        at += k;
     }
     at
 }

@@ -22,11 +22,9 @@ pub fn given_set(g: u32, n: usize) -> Held
     }
     let head = [SET, n as u32];
     let mut v = hold(&head);
-    let mut k = 0;
-    while k < n {
+    for k in 0..n {
         let e = [ELEMENT, g, k as u32];
         v = append(v, &e);
-        k += 1;
     }
     v
 }
@@ -44,13 +42,10 @@ fn small_size(n: usize) -> usize
 pub fn size_of(givens: &[u32], g: usize) -> usize
     ensures { result ≡ size_of givens.now g }
 {
-    let n = givens.len() / 2;
-    let mut i = 0;
-    while i < n {
+    for i in 0..givens.len() / 2 {
         if word(givens, 2 * i) == g {
             return small_size(word(givens, 2 * i + 1));
         }
-        i += 1;
     }
     0
 }

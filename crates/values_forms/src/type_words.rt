@@ -68,11 +68,9 @@ fn types_end(w: &[u32], start: usize, skip: usize, n: usize, depth: usize) -> us
     ensures { result ≡ types_end (type_length depth) skip n w.now start }
 {
     let mut at = start;
-    let mut i = 0;
-    while i < n {
+    for _i in 0..n {
         at += skip;
         at += type_length(from(w, at), depth);
-        i += 1;
     }
     at
 }

@@ -70,17 +70,14 @@ fn each_has(t: &[u32], w: &[u32], own: bool, n: usize, depth: usize) -> bool
 {
     let mut here = 0;
     let mut at = HEAD;
-    let mut i = 0;
-    while i < n {
+    for _i in 0..n {
         let u = from(t, here);
         let v = from(w, at);
-        if type_of(u, v, depth) {
-            here += type_step(own, u);
-            at += span(v);
-            i += 1;
-        } else {
+        if !type_of(u, v, depth) {
             return false;
         }
+        here += type_step(own, u);
+        at += span(v);
     }
     true
 }

@@ -9,8 +9,9 @@ use lib.IntN.{ℤ, pos, negsuc, neg_ℤ, sub_ℕ, ◌+ℤ◌, ◌*ℤ◌}
 use lib.Signed.{◌<ℤ◌, ◌≤ℤ◌, lt_z_yes, le_z_yes}
 use lib.Dec.{le→leb, lt→ltb}
 use borrow.Author.Tests.{lt-ltb}
-use Rattle.values_integers.specs.declared.integer.Integer.{Integer}
-use Rattle.values_integers.specs.declared.integer.Integer.TheVariants.{Whole, Undefined, Outside}
+use Rattle.values_integers.specs.Integer.{Computed}
+use Rattle.std.proofs.Common.{Ok, Err}
+use Rattle.values_integers.specs.declared.integer.ArithmeticError.TheVariants.{Undefined, Outside}
 use Rattle.values_integers.specs.Integer.{floor_div, floor_mod, by_divisor, quotient, remainder, sum, difference, product, kept}
 
 below_zero : (a x y : ℕ) → x < y → y ≡ suc (a + x) → sub_ℕ x y ≡ negsuc a
@@ -46,7 +47,7 @@ unfoldable pub most : ℤ
 most = pos 2147483647
 
 pub data Row : Type 0 where
-  gives : Integer → Integer → Row
+  gives : Computed → Computed → Row
 
 unfoldable pub Hold : List Row → Type 0
 Hold [] = Unit {0}
@@ -54,27 +55,27 @@ Hold (gives x y ∷ rows) = (x ≡ y) × Hold rows
 
 unfoldable pub ends : List Row
 ends =
-    gives (quotient (negsuc 6) (pos 2)) (Whole (negsuc 3))
-    ∷ gives (remainder (negsuc 6) (pos 2)) (Whole (pos 1))
-    ∷ gives (quotient (pos 0) (pos 1)) (Whole (pos 0))
-    ∷ gives (remainder (pos 0) most) (Whole (pos 0))
-    ∷ gives (quotient least (pos 1)) (Whole least)
-    ∷ gives (remainder least (pos 1)) (Whole (pos 0))
-    ∷ gives (quotient least most) (Whole (negsuc 1))
-    ∷ gives (remainder least most) (Whole (pos 2147483646))
-    ∷ gives (quotient most (pos 1)) (Whole most)
-    ∷ gives (quotient most most) (Whole (pos 1))
-    ∷ gives (remainder most most) (Whole (pos 0))
-    ∷ gives (quotient (negsuc 0) most) (Whole (negsuc 0))
-    ∷ gives (remainder (negsuc 0) most) (Whole (pos 2147483646))
-    ∷ gives (quotient most (pos 0)) Undefined
-    ∷ gives (remainder least (negsuc 0)) Undefined
-    ∷ gives (quotient least least) Undefined
-    ∷ gives (sum most (pos 1)) Outside
-    ∷ gives (sum least most) (Whole (negsuc 0))
-    ∷ gives (difference least (pos 1)) Outside
-    ∷ gives (product least (negsuc 0)) Outside
-    ∷ gives (product least (pos 1)) (Whole least)
+    gives (quotient (negsuc 6) (pos 2)) (Ok (negsuc 3))
+    ∷ gives (remainder (negsuc 6) (pos 2)) (Ok (pos 1))
+    ∷ gives (quotient (pos 0) (pos 1)) (Ok (pos 0))
+    ∷ gives (remainder (pos 0) most) (Ok (pos 0))
+    ∷ gives (quotient least (pos 1)) (Ok least)
+    ∷ gives (remainder least (pos 1)) (Ok (pos 0))
+    ∷ gives (quotient least most) (Ok (negsuc 1))
+    ∷ gives (remainder least most) (Ok (pos 2147483646))
+    ∷ gives (quotient most (pos 1)) (Ok most)
+    ∷ gives (quotient most most) (Ok (pos 1))
+    ∷ gives (remainder most most) (Ok (pos 0))
+    ∷ gives (quotient (negsuc 0) most) (Ok (negsuc 0))
+    ∷ gives (remainder (negsuc 0) most) (Ok (pos 2147483646))
+    ∷ gives (quotient most (pos 0)) (Err Undefined)
+    ∷ gives (remainder least (negsuc 0)) (Err Undefined)
+    ∷ gives (quotient least least) (Err Undefined)
+    ∷ gives (sum most (pos 1)) (Err Outside)
+    ∷ gives (sum least most) (Ok (negsuc 0))
+    ∷ gives (difference least (pos 1)) (Err Outside)
+    ∷ gives (product least (negsuc 0)) (Err Outside)
+    ∷ gives (product least (pos 1)) (Ok least)
     ∷ []
 
 pub ends_hold : Hold ends

@@ -1,20 +1,20 @@
 -- Laws of integers of 32 bits signed: bounds of sums and products, and division that rounds down from division toward zero.
-use mathlib.Core.Path.{◌≡◌, refl, sym, ap, ◌∙◌, subst}
+use mathlib.Core.Path.{◌≡◌, refl, ap, ◌∙◌}
 use mathlib.Core.Bool.{Bool, true, false, cond, true≢false, false≢true}
 use mathlib.Core.Logic.{⊎_elim, ◌⊎◌, inl, inr}
 use Prim.Native.Nat.{ℕ, zero, suc, ◌+◌, ◌*◌, ◌-◌, ◌/◌, ◌%◌, ◌≤◌, ◌<◌, ◌^◌}
 use native.Mathlib.Omega.{arith}
-use native.Mathlib.Nat.{add-zero, zero-add, div-add-mod', mod-lt, div-le_self, mul-le-mul, eq-or-lt_of_le, zero-lt-suc, mod-le}
+use native.Mathlib.Nat.{add-zero, div-add-mod', mod-lt, div-le_self, mul-le-mul, eq-or-lt_of_le, zero-lt-suc, mod-le}
 use lib.Arith.{digits_div, digits_mod}
 use lib.IntN.{ℤ, pos, negsuc, neg_ℤ, nat_abs, sub_ℕ, ◌+ℤ◌, ◌-ℤ◌, ◌*ℤ◌}
-use lib.Signed.{mag, lt_z, quot_z, rem_z, non_neg}
-use lib.Dec.{T, ltb}
+use lib.Signed.{mag, lt_z, quot_z, rem_z}
+use lib.Dec.{ltb}
 use borrow.Author.Tests.{lt-ltb, le-ltb, ltb-true, ltb-false}
 use mir.Syntax.{w32, w64}
-use mir.Val.{SFits, Fits, to_z, of_z}
-use mir.ValLaws.{to_z_pos, to_z-neg}
-use Rattle.values_integers.specs.declared.integer.Integer.TheVariants.{Whole, Undefined, Outside}
-use Rattle.values_integers.specs.Integer.{signed, word_of, kept, floor_div, floor_mod, by_divisor, quotient, remainder}
+use mir.Val.{SFits, of_z}
+use Rattle.std.proofs.Common.{Ok, Err}
+use Rattle.values_integers.specs.declared.integer.ArithmeticError.TheVariants.{Undefined, Outside}
+use Rattle.values_integers.specs.Integer.{kept, floor_div, floor_mod, by_divisor, quotient, remainder}
 
 -- ---- bounds
 
@@ -69,12 +69,12 @@ module _ (x y : ℤ) (fx : SFits w32 x) (fy : SFits w32 y) where
 
 -- ---- kept
 
-pub kept_low : (z : ℤ) → lt_z z (negsuc 2147483647) ≡ true → Outside ≡ kept z
+pub kept_low : (z : ℤ) → lt_z z (negsuc 2147483647) ≡ true → (Err Outside) ≡ kept z
 unfolding kept
 kept_low (pos n) h = absurd (false≢true h)
 kept_low (negsuc n) h = rw (le-ltb n (2 ^ 31) (omega (arith, ltb-true 2147483647 n h)))
 
-pub kept_high : (z : ℤ) → lt_z (pos 2147483647) z ≡ true → Outside ≡ kept z
+pub kept_high : (z : ℤ) → lt_z (pos 2147483647) z ≡ true → (Err Outside) ≡ kept z
 unfolding kept
 kept_high (pos n) h = rw (le-ltb n (2 ^ 31) (omega (arith, ltb-true 2147483647 n h)))
 kept_high (negsuc n) h = absurd (false≢true h)
@@ -83,7 +83,7 @@ pub kept_bound : (z : ℤ) → lt_z z (negsuc 2147483647) ≡ false → lt_z (po
 kept_bound (pos n) g h = record { sfits = omega (arith, ltb-false 2147483647 n h) }
 kept_bound (negsuc n) g h = record { sfits = omega (arith, ltb-false 2147483647 n g) }
 
-pub kept_in : (z : ℤ) → SFits w32 z → Whole z ≡ kept z
+pub kept_in : (z : ℤ) → SFits w32 z → Ok z ≡ kept z
 unfolding kept
 kept_in z f = rw (lt-ltb (mag z) (2 ^ 31) (omega (arith, f.sfits)))
 
@@ -128,17 +128,17 @@ next a d = ⊎_elim (λ e. inl (turns e)) (λ h. inr (stays h)) (eq-or-lt_of_le 
 
 -- ---- a divisor of at least 1
 
-not_one_lem : (n : ℤ) → lt_z n (pos 1) ≡ true → (f : ℤ → ℕ → ℤ) (a : ℤ) → Undefined ≡ by_divisor f a n
+not_one_lem : (n : ℤ) → lt_z n (pos 1) ≡ true → (f : ℤ → ℕ → ℤ) (a : ℤ) → (Err Undefined) ≡ by_divisor f a n
 unfolding by_divisor
 not_one_lem (pos zero) h f a = refl
 not_one_lem (pos (suc d)) h f a = absurd (omega (arith, ltb-true (suc d) 1 h))
 not_one_lem (negsuc d) h f a = refl
 
-pub low_quotient : (a n : ℤ) → lt_z n (pos 1) ≡ true → Undefined ≡ quotient a n
+pub low_quotient : (a n : ℤ) → lt_z n (pos 1) ≡ true → (Err Undefined) ≡ quotient a n
 unfolding quotient
 low_quotient a n h = not_one_lem n h floor_div a
 
-pub low_remainder : (a n : ℤ) → lt_z n (pos 1) ≡ true → Undefined ≡ remainder a n
+pub low_remainder : (a n : ℤ) → lt_z n (pos 1) ≡ true → (Err Undefined) ≡ remainder a n
 unfolding remainder
 low_remainder a n h = not_one_lem n h floor_mod a
 
@@ -207,29 +207,29 @@ div_safe a (negsuc d) f g h = absurd (true≢false h)
 
 module _ (a : ℤ) where
   pub quotient_down : (n : ℤ) → SFits w32 a → lt_z n (pos 1) ≡ false → lt_z (rem_z a n) (pos 0) ≡ true →
-      SFits w32 (quot_z a n -ℤ pos 1) × (Whole (quot_z a n -ℤ pos 1) ≡ quotient a n)
+      SFits w32 (quot_z a n -ℤ pos 1) × (Ok (quot_z a n -ℤ pos 1) ≡ quotient a n)
   unfolding quotient by_divisor
   quotient_down (pos zero) f h t = absurd (true≢false h)
-  quotient_down (pos (suc d)) f h t = (rw (quot_down d a t) (floor_fits a (suc d) f), ap Whole (quot_down d a t))
+  quotient_down (pos (suc d)) f h t = (rw (quot_down d a t) (floor_fits a (suc d) f), ap Ok (quot_down d a t))
   quotient_down (negsuc d) f h t = absurd (true≢false h)
 
-  pub quotient_same : (n : ℤ) → lt_z n (pos 1) ≡ false → lt_z (rem_z a n) (pos 0) ≡ false → Whole (quot_z a n) ≡ quotient a n
+  pub quotient_same : (n : ℤ) → lt_z n (pos 1) ≡ false → lt_z (rem_z a n) (pos 0) ≡ false → Ok (quot_z a n) ≡ quotient a n
   unfolding quotient by_divisor
   quotient_same (pos zero) h t = absurd (true≢false h)
-  quotient_same (pos (suc d)) h t = ap Whole (quot_same d a t)
+  quotient_same (pos (suc d)) h t = ap Ok (quot_same d a t)
   quotient_same (negsuc d) h t = absurd (true≢false h)
 
   pub remainder_up : (n : ℤ) → SFits w32 n → lt_z n (pos 1) ≡ false → lt_z (rem_z a n) (pos 0) ≡ true →
-      SFits w32 (rem_z a n +ℤ n) × (Whole (rem_z a n +ℤ n) ≡ remainder a n)
+      SFits w32 (rem_z a n +ℤ n) × (Ok (rem_z a n +ℤ n) ≡ remainder a n)
   unfolding remainder by_divisor
   remainder_up (pos zero) f h t = absurd (true≢false h)
-  remainder_up (pos (suc d)) f h t = (rw (rem_up d a t) (mod_fits d a (omega (arith, f.sfits))), ap Whole (rem_up d a t))
+  remainder_up (pos (suc d)) f h t = (rw (rem_up d a t) (mod_fits d a (omega (arith, f.sfits))), ap Ok (rem_up d a t))
   remainder_up (negsuc d) f h t = absurd (true≢false h)
 
-  pub remainder_same : (n : ℤ) → lt_z n (pos 1) ≡ false → lt_z (rem_z a n) (pos 0) ≡ false → Whole (rem_z a n) ≡ remainder a n
+  pub remainder_same : (n : ℤ) → lt_z n (pos 1) ≡ false → lt_z (rem_z a n) (pos 0) ≡ false → Ok (rem_z a n) ≡ remainder a n
   unfolding remainder by_divisor
   remainder_same (pos zero) h t = absurd (true≢false h)
-  remainder_same (pos (suc d)) h t = ap Whole (rem_same d a t)
+  remainder_same (pos (suc d)) h t = ap Ok (rem_same d a t)
   remainder_same (negsuc d) h t = absurd (true≢false h)
 
 pub rem_fits : (a n : ℤ) → SFits w32 a → SFits w32 (rem_z a n)
@@ -239,50 +239,3 @@ rem_fits (negsuc a) n f = record { sfits = omega (arith, f.sfits, mag_rem' (suc 
     mag_rem' : (r : ℕ) {b : ℕ} → r ≤ suc b → mag (neg_ℤ (pos r)) ≤ b
     mag_rem' zero h = omega arith
     mag_rem' (suc r) h = omega arith
-
--- ---- words and integers
-
-pub minus_one_pos : (m : ℕ) → negsuc 0 -ℤ pos m ≡ negsuc m
-minus_one_pos zero = refl
-minus_one_pos (suc k) = ap (λ (x : ℕ). negsuc (suc x)) (zero-add k)
-
-minus_one_neg : (k : ℕ) → negsuc 0 -ℤ negsuc k ≡ pos k
-minus_one_neg k = rw (le-ltb (suc k) 1 (omega arith)) (ap pos (omega arith))
-
--- a word of 2^31 or more, by its complement m
-module _ (w : ℕ) (h : 2147483648 ≤ w) (f : w < 2 ^ 32) where
-  pub complement : negsuc 0 -ℤ to_z w32 (4294967295 - w) ≡ negsuc (4294967295 - w)
-  complement = rw (to_z_pos w32 (4294967295 - w) (omega arith)) (minus_one_pos (4294967295 - w))
-
-  pub complement_fits : SFits w32 (negsuc (4294967295 - w))
-  complement_fits = record { sfits = omega arith }
-
-  pub complement_signed : negsuc (4294967295 - w) ≡ signed w
-  unfolding signed
-  complement_signed =
-      let e : w ≡ 2 ^ 32 - suc (4294967295 - w) = omega arith in
-      sym (ap (to_z w32) e ∙ to_z-neg w32 (4294967295 - w) (omega arith))
-
--- a negative integer, by its complement
-pub record Complement (z y : ℤ) : Type 0 where
-  pub fits : SFits w32 y
-  pub sign : T (non_neg y)
-  pub small : nat_abs y < 2 ^ 31
-  pub word : 4294967295 - nat_abs y ≡ word_of z
-
-pub negated : (z : ℤ) → SFits w32 z → lt_z z (pos 0) ≡ true → Complement z (negsuc 0 -ℤ z)
-unfolding word_of
-negated (pos n) f h = absurd (omega (arith, ltb-true n 0 h))
-negated (negsuc k) f h = subst (Complement (negsuc k)) (sym (minus_one_neg k)) here
-  where
-    here : Complement (negsuc k) (pos k)
-    here = record { fits = record { sfits = f.sfits }; sign = tt; small = f.sfits; word = omega arith }
-
-pub natural : (z : ℤ) → SFits w32 z → lt_z z (pos 0) ≡ false → T (non_neg z) × Fits w32 (nat_abs z)
-natural (pos n) f h = (tt, record { fits = omega (arith, f.sfits) })
-natural (negsuc n) f h = absurd (true≢false h)
-
-pub natural_word : (z : ℤ) → lt_z z (pos 0) ≡ false → nat_abs z ≡ word_of z
-unfolding word_of
-natural_word (pos n) h = refl
-natural_word (negsuc n) h = absurd (true≢false h)

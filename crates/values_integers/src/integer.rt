@@ -10,93 +10,84 @@ const SMALLEST: i64 = i32::MIN as i64;
 
 const LARGEST: i64 = i32::MAX as i64;
 
-// What arithmetic gives. `integerFinding` of specs/Integer.antt has each case's number.
-#[derive(Clone, Copy)]
-pub enum Integer {
-    Whole(i32),
+// Why arithmetic gives no integer. `integer_finding` of specs/Integer.antt has each case's number.
+#[derive(Clone, Copy, PartialEq, Eq)]
+pub enum ArithmeticError {
     Undefined,
     Outside,
 }
 
-// A word read signed. A cast of a word of 2^31 or more is undefined in Rattle, so the complement is taken first.
+// A word read signed.
 pub fn signed(w: u32) -> i32
     ensures { result ≡ signed w }
 {
-    if w < NEGATIVE {
-        return w as i32;
-    }
-    let m = (u32::MAX - w) as i32;
-    -1 - m
+    w.cast_signed()
 }
 
 // The word of an integer.
 pub fn word_of(z: i32) -> u32
     ensures { result ≡ word_of z }
 {
-    if z < 0 {
-        let m = (-1 - z) as u32;
-        return u32::MAX - m;
-    }
-    z as u32
+    z.cast_unsigned()
 }
 
 // An integer that is kept where 32 bits signed hold it.
-fn kept(z: i64) -> Integer
+fn kept(z: i64) -> Result<i32, ArithmeticError>
     ensures { result ≡ kept z }
 {
     if z < SMALLEST {
-        return Integer::Outside;
+        return Err(ArithmeticError::Outside);
     }
     if LARGEST < z {
-        return Integer::Outside;
+        return Err(ArithmeticError::Outside);
     }
-    Integer::Whole(z as i32)
+    Ok(z as i32)
 }
 
-pub fn add(a: i32, b: i32) -> Integer
+pub fn add(a: i32, b: i32) -> Result<i32, ArithmeticError>
     ensures { result ≡ sum a b }
 {
     kept(a as i64 + b as i64)
 }
 
-pub fn subtract(a: i32, b: i32) -> Integer
+pub fn subtract(a: i32, b: i32) -> Result<i32, ArithmeticError>
     ensures { result ≡ difference a b }
 {
     kept(a as i64 - b as i64)
 }
 
-pub fn multiply(a: i32, b: i32) -> Integer
+pub fn multiply(a: i32, b: i32) -> Result<i32, ArithmeticError>
     ensures { result ≡ product a b }
 {
     kept(a as i64 * b as i64)
 }
 
 // Division that rounds down: the quotient toward zero is one too high where the remainder is negative.
-pub fn divide(a: i32, n: i32) -> Integer
+pub fn divide(a: i32, n: i32) -> Result<i32, ArithmeticError>
     ensures { result ≡ quotient a n }
 {
     if n < 1 {
-        return Integer::Undefined;
+        return Err(ArithmeticError::Undefined);
     }
     let q = a / n;
     let r = a % n;
     if r < 0 {
-        return Integer::Whole(q - 1);
+        return Ok(q - 1);
     }
-    Integer::Whole(q)
+    Ok(q)
 }
 
 // What that division leaves: a negative remainder has n added. Document 01, forms: "a mod n lies in 0 to n − 1".
-// At zero and at both ends of the range: `ends-hold` in proofs/Division.
-pub fn modulo(a: i32, n: i32) -> Integer
+// At zero and at both ends of the range: `ends_hold` in proofs/Division.
+pub fn modulo(a: i32, n: i32) -> Result<i32, ArithmeticError>
     ensures { result ≡ remainder a n }
 {
     if n < 1 {
-        return Integer::Undefined;
+        return Err(ArithmeticError::Undefined);
     }
     let m = a % n;
     if m < 0 {
-        return Integer::Whole(m + n);
+        return Ok(m + n);
     }
-    Integer::Whole(m)
+    Ok(m)
 }

@@ -10,8 +10,7 @@ use lib.Dec.{eqb, leb}
 use borrow.Author.Tests.{lt-ltb, lt-leb, leb-true, leb-false}
 use Rattle.checker_rules.specs.Check.{check_of}
 use Rattle.checker_rules.specs.Areas.{CheckCall}
-use Rattle.checker_rules.specs.declared.Finding.{Finding}
-use Rattle.checker_rules.specs.declared.Finding.TheVariants.{Refused}
+use Rattle.reader_rules.specs.Refusals.{Finding, Refused}
 use Rattle.printer_rules.specs.Print.{print_of, printed_answer, printed_of}
 use Rattle.printer_rules.specs.Buffer.{Printed, printed_bytes, printed_length}
 use Rattle.printer_rules.specs.Bounds.{Words, none, word, OfWords}

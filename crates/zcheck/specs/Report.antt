@@ -2,7 +2,7 @@
 -- over 65,536 is 11.
 use Rattle.std.specs.Prelude.{◌≡◌, cond, List, [], ℕ, length, take}
 use Rattle.checker_rules.specs.Check.{check_work_words}
-use Rattle.checker_rules.specs.declared.Finding.TheVariants.{Refused}
+use Rattle.reader_rules.specs.Refusals.{Refused}
 use Rattle.printer_rules.specs.Print.{print_of, printed_of, dictionary_area_words}
 use Rattle.input.specs.Input.{are_words, words_of}
 use Rattle.reader_rules.specs.Nodes.{document_words}

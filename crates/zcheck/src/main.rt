@@ -2,15 +2,14 @@
 // No contract can say which bytes the system's read and write move; `report` says what is written for the bytes that were read.
 #![tactic(auto)]
 
-ghost use Rattle.std.specs.Prelude.{◌≡◌, ◌≤◌, [], length, IfOk};
-ghost use Rattle.checker_rules.specs.declared.Finding.TheVariants.{Refused};
+ghost use Rattle.std.specs.Prelude.{◌≡◌, [], length};
+ghost use Rattle.reader_rules.specs.Refusals.{Refused};
 ghost use Rattle.printer_rules.specs.Print.{printed_of, print_of};
 ghost use Rattle.zcheck.specs.Report.{report_of, Prints, Areas};
 
-use checker_rules::Finding;
 use codes::{WORD_BYTES, findings, limits};
+use reader_rules::Refusal;
 use std::io;
-use std::io::Read;
 
 // Words of the areas.
 const DOCUMENT: usize = limits::DOCUMENT_WORDS;
@@ -37,10 +36,10 @@ fn print_broken(dict: &[u32], out: &mut [u8]) -> usize
     requires { 180258 ≡ length out.old }
     ensures { Prints (print_of (Refused 11 0) []) result out.new }
 {
-    let finding = Finding::Refused {
+    let finding = Err(Refusal {
         number: findings::BROKEN_LAYOUT,
         place: 0,
-    };
+    });
     printer::print_finding(finding, dict, out)
 }
 
@@ -59,25 +58,10 @@ fn report(input: &[u8], out: &mut [u8; OUTPUT]) -> usize
     print_broken(&dict, out)
 }
 
-// The bytes that a reader has left, at the beginning of a buffer: how many, all of them or as many as the buffer holds.
-fn read_bytes(from: &mut impl Read, bytes: &mut [u8]) -> io::Result<usize>
-    ensures { IfOk result (λ n. n ≤ length bytes.old) }
-{
-    let mut n = 0;
-    while n < bytes.len() {
-        let got = from.read(&mut bytes[n..])?;
-        if got == 0 {
-            break;
-        }
-        n += got;
-    }
-    Ok(n)
-}
-
 fn main(rt: HostRuntime) -> io::Result<()> {
     let mut input = [0u8; INPUT];
     let mut out = [0u8; OUTPUT];
-    let n = read_bytes(&mut rt.stdin(), &mut input)?;
+    let n = input::read_bytes(&mut rt.stdin(), &mut input)?;
     let m = report(&input[..n], &mut out);
     rt.write_all(&out[..m])
 }

@@ -9,7 +9,8 @@ ghost use Rattle.evaluator_rules.specs.Run.{run_of};
 ghost use Rattle.zrun.specs.Judge.{judge_of};
 
 use codes::{WORD_BYTES, limits};
-use evaluator_rules::Finding;
+use evaluator_rules::Ending;
+use reader_rules::Refusal;
 use std::env::FillError;
 use std::fs::File;
 use std::io::{Read, Write};
@@ -32,27 +33,12 @@ const PATH: usize = 4096;
 // Bytes of the buffer for the reason why a file cannot be read.
 const REASON: usize = 512;
 
-// The bytes that an open file has left, at the beginning of a buffer: how many, all of them or as many as the buffer holds.
-fn read_bytes(file: &mut impl Read, bytes: &mut [u8]) -> io::Result<usize>
-    ensures { IfOk result (λ n. n ≤ length bytes.old) }
-{
-    let mut n = 0;
-    while n < bytes.len() {
-        let got = file.read(&mut bytes[n..])?;
-        if got == 0 {
-            break;
-        }
-        n += got;
-    }
-    Ok(n)
-}
-
 // The words of an open file, at the beginning of an area: how many.
 fn take_file(file: &mut impl Read, area: &mut [u32]) -> io::Result<usize>
     ensures { IfOk result (λ n. n ≤ length area.old) }
 {
     let mut bytes = [0u8; INPUT];
-    let n = read_bytes(file, &mut bytes)?;
+    let n = input::read_bytes(file, &mut bytes)?;
     if input::take_words(&bytes[..n], area) {
         return Ok(n / WORD_BYTES);
     }
@@ -130,24 +116,17 @@ fn load_named(
 }
 
 // The refusal of the fit call, else the finding of the run.
-fn judge(doc: &[u32], state: &[u32], dict: &mut [u32], work: &mut [u32]) -> Finding
+fn judge(doc: &[u32], state: &[u32], dict: &mut [u32], work: &mut [u32]) -> Result<Ending, Refusal>
     ensures { result ≡ judge_of (fit_of doc.now state.now (length dict.old) (length work.old)) (run_of doc.now state.now (length work.old)) }
 {
-    let fitted = fitter::fit(doc, state, dict, work);
-    match fitted {
-        checker_rules::Finding::Accepted => evaluator::run(doc, state, work),
-        checker_rules::Finding::Refused { number, place } => Finding::Refused {
-            number: number,
-            place: place,
-        },
-    }
+    fitter::fit(doc, state, dict, work)?;
+    evaluator::run(doc, state, work)
 }
 
-fn show(rt: &impl Print, finding: Finding) -> io::Result<()> {
+fn show(rt: &impl Print, finding: Result<Ending, Refusal>) -> io::Result<()> {
     match finding {
-        Finding::Holds => println!(rt; "holds"),
-        Finding::Fails { node } => println!(rt; "fails at {node}"),
-        Finding::Refused { number, place } => println!(rt; "refused {number} at {place}"),
+        Ok(ending) => println!(rt; "{ending}"),
+        Err(refusal) => println!(rt; "{refusal}"),
     }
 }
 

@@ -1,12 +1,15 @@
+use Rattle.std.proofs.lemmas.Result.{err_from_is_err_and}
 use Rattle.checker.proofs.AnsweringLaws.{words_tree, words_unread}
 use mathlib.Core.Path.{sym, ◌∙◌}
 use Rattle.checker.proofs.check_words.Goals as goal
 
 pub check_tree-requires : goal.check_tree-requires
-check_tree-requires c = sym c.read-reading.ensures ∙ c.in-Readable.is
+check_tree-requires c = sym c.read.ensures ∙ c.in_ok-read.was
 
-pub returns-in-Readable : goal.returns-in-Readable
-returns-in-Readable c = words_tree _ _ _ _ _ (sym c.read-reading.ensures ∙ c.in-Readable.is) c.check_tree.ensures
+pub returns : goal.returns
+returns c = words_tree _ _ _ _ _ (sym c.read.ensures ∙ c.in_ok-read.was) c.check_tree.ensures
 
-pub returns-in-Refused : goal.returns-in-Refused
-returns-in-Refused c = words_unread _ _ _ _ _ _ (sym c.read-reading.ensures ∙ c.in-Refused.is)
+pub returns-in_err-read : goal.returns-in_err-read
+returns-in_err-read c =
+    let p = err_from_is_err_and c.from_residual.result c.from_residual.ensures.1 in
+    rw (p.1, p.2) (words_unread _ _ _ _ _ _ (sym c.read.ensures ∙ c.in_err-read.was))

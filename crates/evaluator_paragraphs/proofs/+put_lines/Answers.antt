@@ -5,10 +5,9 @@ use Rattle.evaluator_scope.specs.Named.{said}
 use Rattle.states.proofs.NameLaws.{text_words, decl_words}
 use Rattle.evaluator_paragraphs.proofs.StepLaws.{put_over, this_line, line_kind, few_line, include_count, decl_count, put_include, put_decl, declares_own, declares_rest, declares_skip}
 use mathlib.Core.Path.{◌≡◌, sym, ap, ◌∙◌}
-use mathlib.Core.Bool.{true, false}
 use mathlib.Core.List.{List}
 use native.Mathlib.Omega.{arith}
-use Prim.Native.Nat.{ℕ, ◌<◌, ◌-◌}
+use Prim.Native.Nat.{ℕ, ◌<◌}
 use Rattle.evaluator_paragraphs.proofs.+put_lines.Goals as goal
 
 pub returns-then-u-i : goal.returns-then-u-i

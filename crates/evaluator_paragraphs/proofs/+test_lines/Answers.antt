@@ -4,12 +4,12 @@ use Rattle.reader_rules.specs.Nodes.{kind_at, operand_at}
 use Rattle.evaluator_scope.specs.Named.{said}
 use Rattle.evaluator_scope.proofs.BlockLaws.{scoped_same}
 use Rattle.states.proofs.NameLaws.{text_words}
+use Rattle.evaluator_operations.proofs.ToldLaws.{exit_told}
 use Rattle.evaluator_paragraphs.proofs.StepLaws.{lines_over, this_line, line_kind, line_lower, few_line, include_stop, decl_stop, decl_go, decl_failed, declares_own, declares_rest}
 use mathlib.Core.Path.{◌≡◌, refl, sym, ap, ◌∙◌}
-use mathlib.Core.Bool.{true, false}
 use mathlib.Core.List.{List}
 use native.Mathlib.Omega.{arith}
-use Prim.Native.Nat.{ℕ, ◌<◌, ◌-◌}
+use Prim.Native.Nat.{ℕ, ◌<◌}
 use Rattle.evaluator_paragraphs.proofs.+test_lines.Goals as goal
 
 pub returns-then-u-i : goal.returns-then-u-i
@@ -22,10 +22,10 @@ returns-then-u-i t c =
     let i = c.args.i in
     let eu = c.requires.2 in
     let l : length u ≡ length (part d ti) = ap length eu in
-    record { kept = refl; told = λ scope g. lines_over d ti (said d st) scope i (length u) c.if-u-i.true c.judge.ensures.0 c.judge.ensures.1 }
+    record { kept = refl; told = λ scope g. lines_over d ti (said d st) scope i (length u) c.if-u-i.true }
 
-pub refuse-requires : goal.refuse-requires
-refuse-requires t c =
+pub refusal-requires : goal.refusal-requires
+refusal-requires t c =
     let d = c.args.doc.now in
     let st = c.args.state.now in
     let tb = c.args.table.now in
@@ -53,10 +53,10 @@ returns-then-word-eq-INCLUDE t c =
     let v = c.word-v.result in
     let xv : v ≡ operand_at d ti i = c.word-v.ensures.0 ∙ ap (λ (z : List ℕ). get_or z i 0) eu in
     let q : i < length (part d ti) = omega (arith, l, c.if-u-i.false) in
-    record { kept = refl; told = λ scope g. rw l (include_stop d ti (said d st) c.requires.1 i c.requires.3 q v xv scope (sym (c.word.ensures.0 ∙ ap (λ (y : List ℕ). get_or y 0 0) c.part-x.ensures) ∙ c.if-word-eq-INCLUDE.true) c.refuse.ensures) }
+    record { kept = refl; told = λ scope g. rw l (include_stop d ti (said d st) c.requires.1 i c.requires.3 q v xv scope (sym (c.word.ensures.0 ∙ ap (λ (y : List ℕ). get_or y 0 0) c.part-x.ensures) ∙ c.if-word-eq-INCLUDE.true) c.refusal.ensures) }
 
-pub test_names-y-requires : goal.test_names-y-requires
-test_names-y-requires t c =
+pub test_names-requires : goal.test_names-requires
+test_names-requires t c =
     let d = c.args.doc.now in
     let st = c.args.state.now in
     let tb = c.args.table.now in
@@ -76,8 +76,8 @@ test_names-y-requires t c =
     let fw = c.requires.5.few in
     (c.requires.0, rw ep (record { at = o.at; room = omega arith; wide = w }), rw ep (declares_own d ti (said d st) c.requires.1 i c.requires.3 q v xv k11 (rw l at c.requires.6)), a.small, rw ep (few_line d v a k11))
 
-pub returns-then-y-ne0 : goal.returns-then-y-ne0
-returns-then-y-ne0 t c =
+pub returns-in_err-y : goal.returns-in_err-y
+returns-in_err-y t c =
     let d = c.args.doc.now in
     let st = c.args.state.now in
     let tb = c.args.table.now in
@@ -91,7 +91,7 @@ returns-then-y-ne0 t c =
     let q : i < length (part d ti) = omega (arith, l, c.if-u-i.false) in
     let ep = c.part-x.ensures in
     let k11 = line_kind d ti (said d st) c.requires.1 i c.requires.3 q v xv (λ (z : kind_at d v ≡ 12). c.if-word-eq-INCLUDE.false (c.word.ensures.0 ∙ ap (λ (y : List ℕ). get_or y 0 0) ep ∙ z)) in
-    record { kept = c.test_names-y.ensures.kept; told = λ scope g. rw l (decl_stop d ti (said d st) c.requires.1 i c.requires.3 q v xv k11 scope (rw ep at (c.test_names-y.ensures.told scope g)) c.if-y-ne0.true) }
+    record { kept = c.in_err-y.ensures.kept; told = λ scope g own. exit_told c.from_residual.ensures.1 (rw l (decl_stop d ti (said d st) c.requires.1 i c.requires.3 q v xv k11 scope (rw ep at (c.in_err-y.ensures.told scope g)) own)) }
 
 pub overflow_add-i : goal.overflow_add-i
 overflow_add-i t c =
@@ -124,8 +124,8 @@ test_lines-requires t c =
     let w = r.wide in
     (omega (arith, c.if-u-i.false), (c.requires.0, c.requires.1, eu, omega (arith, c.requires.3), omega (arith, l, q, (text_words d ti c.requires.1).1), record { few = r.few; wide = omega arith }, rw l (declares_rest d ti (said d st) c.requires.1 i c.requires.3 q v xv k11 (rw l at c.requires.6))))
 
-pub returns-then-y : goal.returns-then-y
-returns-then-y t c =
+pub returns-in-Onward : goal.returns-in-Onward
+returns-in-Onward t c =
     let d = c.args.doc.now in
     let st = c.args.state.now in
     let tb = c.args.table.now in
@@ -139,10 +139,10 @@ returns-then-y t c =
     let q : i < length (part d ti) = omega (arith, l, c.if-u-i.false) in
     let ep = c.part-x.ensures in
     let k11 = line_kind d ti (said d st) c.requires.1 i c.requires.3 q v xv (λ (z : kind_at d v ≡ 12). c.if-word-eq-INCLUDE.false (c.word.ensures.0 ∙ ap (λ (y : List ℕ). get_or y 0 0) ep ∙ z)) in
-    record { kept = c.test_lines.ensures.kept ∙ c.test_names-y.ensures.kept; told = λ scope g. rw l (decl_go d ti (said d st) c.requires.1 i c.requires.3 q v xv k11 scope (rw ep at (c.test_names-y.ensures.told scope g)) c.if-y-ne0.false c.if-y.true (rw l at (c.test_lines.ensures.told scope (scoped_same st _ _ c.args.n c.test_names-y.ensures.kept g)))) }
+    record { kept = c.test_lines.ensures.kept ∙ c.in_ok-y.ensures.kept; told = λ scope g. rw l (decl_go d ti (said d st) c.requires.1 i c.requires.3 q v xv k11 scope (rw c.in-Onward.is at (rw ep at (c.in_ok-y.ensures.told scope g))) (rw l at (c.test_lines.ensures.told scope (scoped_same st _ _ c.args.n c.in_ok-y.ensures.kept g)))) }
 
-pub returns : goal.returns
-returns t c =
+pub returns-in-Failed : goal.returns-in-Failed
+returns-in-Failed t c =
     let d = c.args.doc.now in
     let st = c.args.state.now in
     let tb = c.args.table.now in
@@ -156,4 +156,4 @@ returns t c =
     let q : i < length (part d ti) = omega (arith, l, c.if-u-i.false) in
     let ep = c.part-x.ensures in
     let k11 = line_kind d ti (said d st) c.requires.1 i c.requires.3 q v xv (λ (z : kind_at d v ≡ 12). c.if-word-eq-INCLUDE.false (c.word.ensures.0 ∙ ap (λ (y : List ℕ). get_or y 0 0) ep ∙ z)) in
-    record { kept = c.test_names-y.ensures.kept; told = λ scope g. rw l (decl_failed d ti (said d st) c.requires.1 i c.requires.3 q v xv k11 scope (rw ep at (c.test_names-y.ensures.told scope g)) c.if-y-ne0.false c.if-y.false) }
+    record { kept = c.in_ok-y.ensures.kept; told = λ scope g. rw l (decl_failed d ti (said d st) c.requires.1 i c.requires.3 q v xv k11 scope (rw c.in-Failed.is at (rw ep at (c.in_ok-y.ensures.told scope g)))) }

@@ -6,12 +6,12 @@ use Rattle.evaluator_rules.specs.Rules.{test}
 use Rattle.evaluator_nodes.specs.Ready.{Ready}
 use Rattle.evaluator_scope.specs.Named.{Among, said}
 use Rattle.evaluator_scope.proofs.BlockLaws.{scoped_same}
+use Rattle.evaluator_operations.proofs.ToldLaws.{exit_told}
 use Rattle.evaluator_paragraphs.proofs.StepLaws.{names_end, names_stop, names_go, names_failed}
 use Rattle.evaluator_scope.proofs.NamedLaws.{declares_here, declares_later}
 use mathlib.Core.Path.{refl, sym, subst, ◌∙◌}
-use mathlib.Core.Bool.{true, false}
 use native.Mathlib.Omega.{arith}
-use Prim.Native.Nat.{ℕ, ◌-◌}
+use Prim.Native.Nat.{ℕ}
 use Rattle.evaluator_paragraphs.proofs.+test_names.Goals as goal
 
 pub returns-then-x-j : goal.returns-then-x-j
@@ -22,7 +22,7 @@ returns-then-x-j t c =
     let x = c.args.x.now in
     let j = c.args.j in
     let v = c.args.v in
-    record { kept = refl; told = λ scope g. names_end v (test (expr_at d (get_or x 1 0)) scope) x j (said d st) c.if-x-j.true c.judge.ensures.0 c.judge.ensures.1 }
+    record { kept = refl; told = λ scope g. names_end v (test (expr_at d (get_or x 1 0)) scope) x j (said d st) c.if-x-j.true }
 
 pub held_name-requires : goal.held_name-requires
 held_name-requires t c =
@@ -34,8 +34,8 @@ held_name-requires t c =
     let v = c.args.v in
     (c.requires.0, subst (λ (n : ℕ). Among n (document_names (tree_of d))) (sym c.word-2.ensures.0) (declares_here x j (omega arith) c.requires.2))
 
-pub tests-y-requires : goal.tests-y-requires
-tests-y-requires t c =
+pub tests-requires : goal.tests-requires
+tests-requires t c =
     let d = c.args.doc.now in
     let st = c.args.state.now in
     let tb = c.args.table.now in
@@ -44,15 +44,15 @@ tests-y-requires t c =
     let v = c.args.v in
     subst (λ (n : ℕ). Ready d c.args.work.now expressions c.args.n n) (sym c.word.ensures.0) c.requires.1
 
-pub returns-then-y-ne0 : goal.returns-then-y-ne0
-returns-then-y-ne0 t c =
+pub returns-in_err-y : goal.returns-in_err-y
+returns-in_err-y t c =
     let d = c.args.doc.now in
     let st = c.args.state.now in
     let tb = c.args.table.now in
     let x = c.args.x.now in
     let j = c.args.j in
     let v = c.args.v in
-    record { kept = c.tests-y.ensures.kept; told = λ scope g. names_stop v (test (expr_at d (get_or x 1 0)) scope) x j (said d st) c.if-x-j.false (rw (c.word.ensures.0, c.word-2.ensures.0) at (c.tests-y.ensures.told (said d st c.word-2.result) c.held_name.ensures scope g)) c.if-y-ne0.true }
+    record { kept = c.in_err-y.ensures.kept; told = λ scope g own. exit_told c.from_residual.ensures.1 (names_stop v (test (expr_at d (get_or x 1 0)) scope) x j (said d st) c.if-x-j.false (rw (c.word.ensures.0, c.word-2.ensures.0) at (c.in_err-y.ensures.told (said d st c.word-2.result) c.held_name.ensures scope g)) own) }
 
 pub overflow_add-j : goal.overflow_add-j
 overflow_add-j t c = omega (arith, c.if-x-j.false, c.requires.4)
@@ -67,7 +67,7 @@ test_names-requires t c =
     let v = c.args.v in
     let r = c.requires.1 in
     let w = r.wide in
-    (omega (arith, c.if-x-j.false, c.decreases), (c.requires.0, record { at = r.at; room = r.room; wide = omega (arith, w, c.tests-y.auto.work) }, declares_later x j c.if-x-j.false c.requires.2, c.requires.3, c.requires.4))
+    (omega (arith, c.if-x-j.false, c.decreases), (c.requires.0, record { at = r.at; room = r.room; wide = omega (arith, w, c.tests.auto.work) }, declares_later x j c.if-x-j.false c.requires.2, c.requires.3, c.requires.4))
 
 pub returns-then-y : goal.returns-then-y
 returns-then-y t c =
@@ -77,10 +77,7 @@ returns-then-y t c =
     let x = c.args.x.now in
     let j = c.args.j in
     let v = c.args.v in
-    record { kept = c.test_names.ensures.kept ∙ c.tests-y.ensures.kept; told = λ scope g. names_go v (test (expr_at d (get_or x 1 0)) scope) x j (said d st) c.if-x-j.false (rw (c.word.ensures.0, c.word-2.ensures.0) at (c.tests-y.ensures.told (said d st c.word-2.result) c.held_name.ensures scope g)) c.if-y-ne0.false c.if-y.true (c.test_names.ensures.told scope (scoped_same st _ _ c.args.n c.tests-y.ensures.kept g)) }
-
-pub fail-requires : goal.fail-requires
-fail-requires t c = c.requires.3
+    record { kept = c.test_names.ensures.kept ∙ c.in_ok-y.ensures.kept; told = λ scope g. names_go v (test (expr_at d (get_or x 1 0)) scope) x j (said d st) c.if-x-j.false (rw (c.word.ensures.0, c.word-2.ensures.0) at (c.in_ok-y.ensures.told (said d st c.word-2.result) c.held_name.ensures scope g)) c.if-y.true (c.test_names.ensures.told scope (scoped_same st _ _ c.args.n c.in_ok-y.ensures.kept g)) }
 
 pub returns : goal.returns
 returns t c =
@@ -90,4 +87,4 @@ returns t c =
     let x = c.args.x.now in
     let j = c.args.j in
     let v = c.args.v in
-    record { kept = c.tests-y.ensures.kept; told = λ scope g. names_failed v (test (expr_at d (get_or x 1 0)) scope) x j (said d st) c.if-x-j.false (rw (c.word.ensures.0, c.word-2.ensures.0) at (c.tests-y.ensures.told (said d st c.word-2.result) c.held_name.ensures scope g)) c.if-y-ne0.false c.if-y.false c.fail.ensures }
+    record { kept = c.in_ok-y.ensures.kept; told = λ scope g. names_failed v (test (expr_at d (get_or x 1 0)) scope) x j (said d st) c.if-x-j.false (rw (c.word.ensures.0, c.word-2.ensures.0) at (c.in_ok-y.ensures.told (said d st c.word-2.result) c.held_name.ensures scope g)) c.if-y.false }

@@ -1,17 +1,17 @@
-use Prim.Native.Nat.{ℕ, ◌-◌}
+use Prim.Native.Nat.{ℕ}
 use lib.ListN.{get_or}
 use Rattle.reader_rules.specs.Nodes.{operand_at}
 use Rattle.evaluator_scope.specs.Named.{said}
 use Rattle.evaluator_scope.proofs.BlockLaws.{scoped_same}
+use Rattle.evaluator_operations.proofs.ToldLaws.{exit_told}
 use Rattle.evaluator_paragraphs.proofs.StepLaws.{axiom_text, axiom_names, axiom_globals, axiom_pred, axiom_stops_lem, axiom_goes, axiom_fails_lem, names_counted}
 use mathlib.Core.Path.{◌≡◌, ap, ◌∙◌}
-use mathlib.Core.Bool.{true, false}
 use mathlib.Core.List.{List}
 use native.Mathlib.Omega.{arith}
 use Rattle.evaluator_paragraphs.proofs.axiom.Goals as goal
 
-pub test_lines-y-requires : goal.test_lines-y-requires
-test_lines-y-requires c =
+pub test_lines-requires : goal.test_lines-requires
+test_lines-requires c =
     let d = c.args.doc.now in
     let st = c.args.state.now in
     let k = c.args.k in
@@ -24,8 +24,8 @@ test_lines-y-requires c =
     let f = r.few in
     (c.requires.0, axiom_text d k h q a e (said d st), eu, omega arith, omega arith, record { few = omega arith; wide = r.wide }, rw eu (rw (axiom_names d k h q a e (said d st)) at c.requires.4))
 
-pub returns-then-y-ne0 : goal.returns-then-y-ne0
-returns-then-y-ne0 c =
+pub returns-in_err-y : goal.returns-in_err-y
+returns-in_err-y c =
     let d = c.args.doc.now in
     let st = c.args.state.now in
     let k = c.args.k in
@@ -34,7 +34,7 @@ returns-then-y-ne0 c =
     let q = c.requires.2 in
     let a = c.word-t.result in
     let eu = c.part-u.ensures in
-    λ scope g. axiom_stops_lem d k h q a e (said d st) scope (rw eu at (c.test_lines-y.ensures.told scope g)) c.if-y-ne0.true
+    λ scope g. exit_told c.from_residual.ensures.1 (axiom_stops_lem d k h q a e (said d st) scope (rw eu at (c.in_err-y.ensures.told scope g)))
 
 pub put_lines-requires : goal.put_lines-requires
 put_lines-requires c =
@@ -85,8 +85,8 @@ demand-requires c =
     let o = axiom_pred d k h q a e (said d st) in
     (rw (c.word.ensures.0, eu) (record { at = o.at; room = omega (arith, f, c.text_count.ensures.1); wide = omega arith }), h.small)
 
-pub returns-then-y : goal.returns-then-y
-returns-then-y c =
+pub returns-in-Onward : goal.returns-in-Onward
+returns-in-Onward c =
     let d = c.args.doc.now in
     let st = c.args.state.now in
     let k = c.args.k in
@@ -97,10 +97,10 @@ returns-then-y c =
     let eu = c.part-u.ensures in
     let z = axiom_globals d k h q a e (said d st) in
     let m = c.text_count.ensures.0 ∙ names_counted _ in
-    λ scope g. rw z (axiom_goes d k h q a e (said d st) scope (rw eu at (c.test_lines-y.ensures.told scope g)) c.if-y-ne0.false c.if-y.true (rw (c.word.ensures.0, eu, m) at (c.demand.ensures _ (rw (eu, ← m) at (c.put_lines.ensures scope (scoped_same st _ _ c.args.n c.test_lines-y.ensures.kept g))))))
+    λ scope g. rw z (axiom_goes d k h q a e (said d st) scope (rw c.in-Onward.is at (rw eu at (c.in_ok-y.ensures.told scope g))) (rw (c.word.ensures.0, eu, m) at (c.demand.ensures _ (rw (eu, ← m) at (c.put_lines.ensures scope (scoped_same st _ _ c.args.n c.in_ok-y.ensures.kept g))))))
 
-pub returns : goal.returns
-returns c =
+pub returns-in-Failed : goal.returns-in-Failed
+returns-in-Failed c =
     let d = c.args.doc.now in
     let st = c.args.state.now in
     let k = c.args.k in
@@ -109,4 +109,4 @@ returns c =
     let q = c.requires.2 in
     let a = c.word-t.result in
     let eu = c.part-u.ensures in
-    λ scope g. axiom_fails_lem d k h q a e (said d st) scope (rw eu at (c.test_lines-y.ensures.told scope g)) c.if-y-ne0.false c.if-y.false
+    λ scope g. axiom_fails_lem d k h q a e (said d st) scope (rw c.in-Failed.is at (rw eu at (c.in_ok-y.ensures.told scope g)))

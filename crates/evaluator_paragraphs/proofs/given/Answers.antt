@@ -1,4 +1,3 @@
-use Prim.Native.Nat.{◌-◌}
 use Rattle.evaluator_scope.specs.Named.{said}
 use Rattle.states.proofs.NameLaws.{given_names, given_words}
 use Rattle.evaluator_paragraphs.proofs.StepLaws.{given_globals, given_steps}
@@ -24,4 +23,4 @@ returns c =
     let st = c.args.state.now in
     let k = c.args.k in
     let e = c.requires.5 in
-    given_steps d k c.requires.1 (said d st) st _ _ c.args.n c.requires.2 c.judge.ensures.0 c.judge.ensures.1 (rw e at c.put_names.ensures)
+    given_steps d k c.requires.1 (said d st) st _ _ c.args.n c.requires.2 (rw e at c.put_names.ensures)

@@ -1,4 +1,4 @@
-use Prim.Native.Nat.{ℕ, ◌-◌}
+use Prim.Native.Nat.{ℕ}
 use lib.ListN.{get_or}
 use Rattle.reader_rules.specs.Nodes.{operand_at}
 use Rattle.evaluator_scope.specs.Named.{said}
@@ -64,4 +64,4 @@ returns-in_default c =
     let k = c.args.k in
     let e = c.word-q.ensures.0 ∙ ap (λ (y : List ℕ). get_or y 0 0) c.part-w.ensures in
     let r = c.in_default.in_default-own.rest in
-    schema_steps d k c.requires.1 (said d st) st _ st c.args.n (schema_kind d k c.requires.1 (λ z. r.0.0.0.1 (e ∙ z)) (λ z. r.0.0.1 (e ∙ z)) (λ z. r.0.1 (e ∙ z)) (λ z. r.1 (e ∙ z))) c.judge.ensures.0 c.judge.ensures.1
+    schema_steps d k c.requires.1 (said d st) st _ st c.args.n (schema_kind d k c.requires.1 (λ z. r.0.0.0.1 (e ∙ z)) (λ z. r.0.0.1 (e ∙ z)) (λ z. r.0.1 (e ∙ z)) (λ z. r.1 (e ∙ z)))

@@ -3,11 +3,8 @@ use mathlib.Core.List.{List}
 use Prim.Native.Nat.{ℕ}
 use lib.ListN.{drop}
 use Rattle.values.specs.Typed.{has_type}
-use Rattle.fitter_types.proofs.Types.{test_absent, test_told}
+use Rattle.fitter_types.proofs.Types.{test_told}
 use Rattle.fitter_types.proofs.is_typed.Goals as goal
-
-pub returns-then-k-eq0 : goal.returns-then-k-eq0
-returns-then-k-eq0 c = test_absent c.args.dict.now c.args.id c.entry_of_name-k.result c.args.w.now c.entry_of_name-k.ensures c.if-k-eq0.true
 
 pub returns : goal.returns
 returns c =

@@ -1,4 +1,4 @@
-use mathlib.Core.Path.{◌≡◌, refl, ap, ◌∙◌}
+use mathlib.Core.Path.{refl, ap, ◌∙◌}
 use mathlib.Core.List.{List, ◌++◌}
 use Prim.Native.Nat.{ℕ}
 use native.Mathlib.Omega.{arith}
@@ -10,21 +10,12 @@ use Rattle.input.proofs.copy_words.Goals as goal
 
 pub loop-i-init : goal.loop-i-init
 unfolding first_words joined
-loop-i-init c = (omega arith, refl, refl)
+loop-i-init c = (refl, refl)
 
 pub loop-i-preserved : goal.loop-i-preserved
 loop-i-preserved c =
     let w = c.word_at.ensures in
     let next = store_next c.args.bytes.now c.args.words.now c.loop-i.i (omega arith) in (
-      omega arith,
-      c.store.auto.u ∙ c.loop-i.invariant.1,
-      c.store.ensures ∙ ap (λ (z : List ℕ). set z c.loop-i.i c.word_at.result) c.loop-i.invariant.2 ∙ ap (set (first_words c.args.bytes.now c.loop-i.i ++ drop c.loop-i.i c.args.words.now) c.loop-i.i) w ∙ next,
+      c.store.auto.u ∙ c.loop-i.invariant.0,
+      c.store.ensures ∙ ap (λ (z : List ℕ). set z c.loop-i.i c.word_at.result) c.loop-i.invariant.1 ∙ ap (set (first_words c.args.bytes.now c.loop-i.i ++ drop c.loop-i.i c.args.words.now) c.loop-i.i) w ∙ next,
     )
-
-pub shape_of-words : goal.shape_of-words
-shape_of-words c = c.loop-i.invariant.1
-
-pub returns : goal.returns
-returns c =
-    let e : c.loop-i.i ≡ c.args.n = omega arith in
-    c.loop-i.invariant.2 ∙ ap (λ (k : ℕ). first_words c.args.bytes.now k ++ drop k c.args.words.now) e

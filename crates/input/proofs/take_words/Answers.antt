@@ -1,6 +1,4 @@
 use mathlib.Core.Path.{◌∙◌}
-use native.Mathlib.Omega.{arith}
-use native.Mathlib.Nat.{div-add-mod'}
 use lib.ListN.{length}
 use Rattle.input.specs.Input.{words_of}
 use Rattle.input.proofs.Laws.{broken_word, too_many_lem, all_words_lem, none_written, all_written}
@@ -17,9 +15,6 @@ returns-then-words-n c =
     let a = c.args in
     let e = too_many_lem a.bytes.now (length a.words.now) c.if-bytes-ne0.false c.if-words-n.true in
     record { value = e; words_after = none_written a.bytes.now a.words.now e }
-
-pub copy_words-requires : goal.copy_words-requires
-copy_words-requires c = let t = div-add-mod' (length c.args.bytes.now) 4 in (omega arith, omega arith)
 
 pub returns : goal.returns
 unfolding words_of

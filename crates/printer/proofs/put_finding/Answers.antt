@@ -1,10 +1,10 @@
 use Rattle.printer_rules.specs.Print.{print_of}
 use Rattle.printer.proofs.put_finding.Goals as goal
 
-pub returns-in-Accepted : goal.returns-in-Accepted
+pub returns-in-Ok : goal.returns-in-Ok
 unfolding print_of
-returns-in-Accepted c = rw c.in-Accepted.is c.put_accepted.ensures
+returns-in-Ok c = rw c.in-Ok.is c.put_accepted.ensures
 
-pub returns-in-Refused : goal.returns-in-Refused
+pub returns-in-Err : goal.returns-in-Err
 unfolding print_of
-returns-in-Refused c = rw c.in-Refused.is c.put_refused.ensures
+returns-in-Err c = rw c.in-Err.is c.put_refused.ensures

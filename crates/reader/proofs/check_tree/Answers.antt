@@ -1,7 +1,10 @@
+use Rattle.std.proofs.lemmas.Result.{err_from_is_err_and}
 use Rattle.reader.proofs.check_tree.Goals as goal
 
-pub returns-in-Readable : goal.returns-in-Readable
-returns-in-Readable c = rw (← c.first_repeat-first.ensures, c.in-Readable.is) c.first_past_limit.ensures
+pub returns : goal.returns
+returns c = rw (← c.first_repeat.ensures, c.in_ok-first_repeat.was) c.first_past_limit.ensures
 
-pub returns-in-Refused : goal.returns-in-Refused
-returns-in-Refused c = rw (← c.first_repeat-first.ensures, c.in-Refused.is)
+pub returns-in_err-first_repeat : goal.returns-in_err-first_repeat
+returns-in_err-first_repeat c =
+    let p = err_from_is_err_and c.from_residual.result c.from_residual.ensures.1 in
+    rw (← c.first_repeat.ensures, c.in_err-first_repeat.was, p.1, p.2)

@@ -1,3 +1,4 @@
+use Rattle.std.proofs.lemmas.Result.{err_from_is_err_and}
 use Rattle.reader.proofs.LinkLaws.{tallied, linked}
 use Rattle.reader_rules.specs.Nodes.{document_form}
 use Rattle.layout.proofs.Laws.{laid}
@@ -8,8 +9,8 @@ use Rattle.reader.proofs.check_uses_and_tree.Goals as goal
 pub link_nodes-requires : goal.link_nodes-requires
 link_nodes-requires c = (laid document_form _ c.requires.0).few
 
-pub first_misused-first-requires : goal.first_misused-first-requires
-first_misused-first-requires c = (rw c.link_nodes.ensures.0 (tallied _), (laid document_form _ c.requires.0).few)
+pub first_misused-requires : goal.first_misused-requires
+first_misused-requires c = (rw c.link_nodes.ensures.0 (tallied _), (laid document_form _ c.requires.0).few)
 
 pub check_tree-requires : goal.check_tree-requires
 check_tree-requires c =
@@ -17,12 +18,14 @@ check_tree-requires c =
     record {
       laid = c.requires.0;
       nodes = c.requires.1;
-      uses = sym c.first_misused-first.ensures ∙ c.in-Readable.is;
+      uses = sym c.first_misused.ensures ∙ c.in_ok-first_misused.was;
       parents = rw c.link_nodes.ensures.1 (linked d (omega (arith, (laid document_form d c.requires.0).few)));
     }
 
-pub returns-in-Readable : goal.returns-in-Readable
-returns-in-Readable c = rw (← c.first_misused-first.ensures, c.in-Readable.is) c.check_tree.ensures
+pub returns : goal.returns
+returns c = rw (← c.first_misused.ensures, c.in_ok-first_misused.was) c.check_tree.ensures
 
-pub returns-in-Refused : goal.returns-in-Refused
-returns-in-Refused c = rw (← c.first_misused-first.ensures, c.in-Refused.is)
+pub returns-in_err-first_misused : goal.returns-in_err-first_misused
+returns-in_err-first_misused c =
+    let p = err_from_is_err_and c.from_residual.result c.from_residual.ensures.1 in
+    rw (← c.first_misused.ensures, c.in_err-first_misused.was, p.1, p.2)

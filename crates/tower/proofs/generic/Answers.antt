@@ -1,35 +1,6 @@
 use native.Mathlib.Omega.{arith}
-use Rattle.tower.proofs.Building.{room_part, room_after, built_on, built_size, form_plain, form_product, form_power}
+use Rattle.tower.proofs.Building.{room_after, built_on, form_product, form_power}
 use Rattle.tower.proofs.generic.Goals as goal
-
-pub former-requires : goal.former-requires
-former-requires c = form_plain _ _ _ 0 (room_part _ _ _ 8 31 1 0 c.requires (omega arith) (omega arith)) (omega arith)
-
-pub overflow_add-n : goal.overflow_add-n
-overflow_add-n c = let w = c.requires.cells in let z = c.requires.words in omega arith
-
-pub former-requires-2 : goal.former-requires-2
-former-requires-2 c =
-    let b0 = c.former.ensures in
-    form_product _ _ _ _ 0 6 (room_after _ _ _ _ 8 31 1 0 _ _ 1 6 c.requires b0 (omega arith) (omega arith) (omega arith) (omega arith)) (λ j l. omega arith) (omega arith)
-
-pub overflow_add-n-2 : goal.overflow_add-n-2
-overflow_add-n-2 c = let w = c.requires.cells in let z = c.requires.words in omega arith
-
-pub overflow_add-top : goal.overflow_add-top
-overflow_add-top c = let w = c.requires.cells in let z = c.requires.words in omega arith
-
-pub former-requires-3 : goal.former-requires-3
-former-requires-3 c =
-    let b0 = c.former.ensures in
-    let b1 = built_on _ _ _ _ _ 1 0 _ _ 1 6 2 6 b0 (omega arith) (omega arith) c.former-2.ensures (omega arith) (omega arith) in
-    form_product _ _ _ _ 0 6 (room_after _ _ _ _ 8 31 2 6 _ _ 1 6 c.requires b1 (omega arith) (omega arith) (omega arith) (omega arith)) (λ j l. omega arith) (omega arith)
-
-pub overflow_add-n-3 : goal.overflow_add-n-3
-overflow_add-n-3 c = let w = c.requires.cells in let z = c.requires.words in omega arith
-
-pub overflow_add-top-2 : goal.overflow_add-top-2
-overflow_add-top-2 c = let w = c.requires.cells in let z = c.requires.words in omega arith
 
 pub former-requires-4 : goal.former-requires-4
 former-requires-4 c =
@@ -37,12 +8,6 @@ former-requires-4 c =
     let b1 = built_on _ _ _ _ _ 1 0 _ _ 1 6 2 6 b0 (omega arith) (omega arith) c.former-2.ensures (omega arith) (omega arith) in
     let b2 = built_on _ _ _ _ _ 2 6 _ _ 1 6 3 12 b1 (omega arith) (omega arith) c.former-3.ensures (omega arith) (omega arith) in
     form_product _ _ _ _ 0 6 (room_after _ _ _ _ 8 31 3 12 _ _ 1 6 c.requires b2 (omega arith) (omega arith) (omega arith) (omega arith)) (λ j l. omega arith) (omega arith)
-
-pub overflow_add-n-4 : goal.overflow_add-n-4
-overflow_add-n-4 c = let w = c.requires.cells in let z = c.requires.words in omega arith
-
-pub overflow_add-top-3 : goal.overflow_add-top-3
-overflow_add-top-3 c = let w = c.requires.cells in let z = c.requires.words in omega arith
 
 pub former-requires-5 : goal.former-requires-5
 former-requires-5 c =
@@ -52,15 +17,6 @@ former-requires-5 c =
     let b3 = built_on _ _ _ _ _ 3 12 _ _ 1 6 4 18 b2 (omega arith) (omega arith) c.former-4.ensures (omega arith) (omega arith) in
     form_product _ _ _ _ 0 6 (room_after _ _ _ _ 8 31 4 18 _ _ 1 6 c.requires b3 (omega arith) (omega arith) (omega arith) (omega arith)) (λ j l. omega arith) (omega arith)
 
-pub overflow_add-n-5 : goal.overflow_add-n-5
-overflow_add-n-5 c = let w = c.requires.cells in let z = c.requires.words in omega arith
-
-pub overflow_add-top-4 : goal.overflow_add-top-4
-overflow_add-top-4 c = let w = c.requires.cells in let z = c.requires.words in omega arith
-
-pub overflow_add-n-6 : goal.overflow_add-n-6
-overflow_add-n-6 c = let w = c.requires.cells in let z = c.requires.words in omega arith
-
 pub former-requires-6 : goal.former-requires-6
 former-requires-6 c =
     let b0 = c.former.ensures in
@@ -69,12 +25,6 @@ former-requires-6 c =
     let b3 = built_on _ _ _ _ _ 3 12 _ _ 1 6 4 18 b2 (omega arith) (omega arith) c.former-4.ensures (omega arith) (omega arith) in
     let b4 = built_on _ _ _ _ _ 4 18 _ _ 1 6 5 24 b3 (omega arith) (omega arith) c.former-5.ensures (omega arith) (omega arith) in
     form_product _ _ _ _ 1 4 (room_after _ _ _ _ 8 31 5 24 _ _ 1 4 c.requires b4 (omega arith) (omega arith) (omega arith) (omega arith)) (λ j l. omega arith) (omega arith)
-
-pub overflow_add-n-7 : goal.overflow_add-n-7
-overflow_add-n-7 c = let w = c.requires.cells in let z = c.requires.words in omega arith
-
-pub overflow_add-top-5 : goal.overflow_add-top-5
-overflow_add-top-5 c = let w = c.requires.cells in let z = c.requires.words in omega arith
 
 pub former-requires-7 : goal.former-requires-7
 former-requires-7 c =
@@ -86,15 +36,6 @@ former-requires-7 c =
     let b5 = built_on _ _ _ _ _ 5 24 _ _ 1 4 6 28 b4 (omega arith) (omega arith) c.former-6.ensures (omega arith) (omega arith) in
     form_product _ _ _ _ 5 2 (room_after _ _ _ _ 8 31 6 28 _ _ 1 2 c.requires b5 (omega arith) (omega arith) (omega arith) (omega arith)) (λ j l. omega arith) (omega arith)
 
-pub overflow_add-n-8 : goal.overflow_add-n-8
-overflow_add-n-8 c = let w = c.requires.cells in let z = c.requires.words in omega arith
-
-pub overflow_add-top-6 : goal.overflow_add-top-6
-overflow_add-top-6 c = let w = c.requires.cells in let z = c.requires.words in omega arith
-
-pub overflow_add-n-9 : goal.overflow_add-n-9
-overflow_add-n-9 c = let w = c.requires.cells in let z = c.requires.words in omega arith
-
 pub former-requires-8 : goal.former-requires-8
 former-requires-8 c =
     let b0 = c.former.ensures in
@@ -105,18 +46,6 @@ former-requires-8 c =
     let b5 = built_on _ _ _ _ _ 5 24 _ _ 1 4 6 28 b4 (omega arith) (omega arith) c.former-6.ensures (omega arith) (omega arith) in
     let b6 = built_on _ _ _ _ _ 6 28 _ _ 1 2 7 30 b5 (omega arith) (omega arith) c.former-7.ensures (omega arith) (omega arith) in
     form_power _ _ _ _ (room_after _ _ _ _ 8 31 7 30 _ _ 1 1 c.requires b6 (omega arith) (omega arith) (omega arith) (omega arith)) (omega arith)
-
-pub shape_of-a : goal.shape_of-a
-shape_of-a c =
-    let b0 = c.former.ensures in
-    let b1 = built_on _ _ _ _ _ 1 0 _ _ 1 6 2 6 b0 (omega arith) (omega arith) c.former-2.ensures (omega arith) (omega arith) in
-    let b2 = built_on _ _ _ _ _ 2 6 _ _ 1 6 3 12 b1 (omega arith) (omega arith) c.former-3.ensures (omega arith) (omega arith) in
-    let b3 = built_on _ _ _ _ _ 3 12 _ _ 1 6 4 18 b2 (omega arith) (omega arith) c.former-4.ensures (omega arith) (omega arith) in
-    let b4 = built_on _ _ _ _ _ 4 18 _ _ 1 6 5 24 b3 (omega arith) (omega arith) c.former-5.ensures (omega arith) (omega arith) in
-    let b5 = built_on _ _ _ _ _ 5 24 _ _ 1 4 6 28 b4 (omega arith) (omega arith) c.former-6.ensures (omega arith) (omega arith) in
-    let b6 = built_on _ _ _ _ _ 6 28 _ _ 1 2 7 30 b5 (omega arith) (omega arith) c.former-7.ensures (omega arith) (omega arith) in
-    let b7 = built_on _ _ _ _ _ 7 30 _ _ 1 1 8 31 b6 (omega arith) (omega arith) c.former-8.ensures (omega arith) (omega arith) in
-    built_size _ _ _ _ 8 31 c.requires 8 31 b7
 
 pub returns : goal.returns
 returns c =

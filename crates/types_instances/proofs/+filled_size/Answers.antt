@@ -1,6 +1,6 @@
 use mathlib.Core.Path.{sym, ap, ◌∙◌}
 use native.Mathlib.Omega.{arith}
-use Prim.Native.Nat.{◌+◌, ◌-◌}
+use Prim.Native.Nat.{◌+◌}
 use lib.ListN.{length}
 use Rattle.types_rules.specs.Types.{size, tnil}
 use Rattle.types_cells.specs.Settled.{heap}
@@ -12,17 +12,8 @@ use Rattle.types_instances.proofs.Rows.{parameter_fill}
 use Rattle.types_instances.proofs.FillSizes.{total_start, total_step, total_end, total_stop}
 use Rattle.types_instances.proofs.+filled_size.Goals as goal
 
-pub type_word-t-requires : goal.type_word-t-requires
-type_word-t-requires t c = c.requires.actuals.areas.size
-
 pub overflow_add-p : goal.overflow_add-p
 overflow_add-p t c = let P = c.requires in let f = place_few _ _ _ _ P.actuals.areas P.reads in omega arith
-
-pub type_word-requires : goal.type_word-requires
-type_word-requires t c = c.requires.actuals.areas.size
-
-pub actual_size-becomes-requires : goal.actual_size-becomes-requires
-actual_size-becomes-requires t c = c.requires.actuals
 
 pub overflow_add-past : goal.overflow_add-past
 overflow_add-past t c = let P = c.requires in let f = place_few _ _ _ _ P.actuals.areas P.reads in omega arith
@@ -71,15 +62,6 @@ filled_size-part-requires t c =
     let m = c.decreases in
     let o = c.loop-j.invariant.0 in
     (omega arith, record { actuals = P.actuals; type = S.part; reads = S.reads })
-
-pub overflow_add-sum : goal.overflow_add-sum
-overflow_add-sum t c = let a = c.filled_size-part.ensures.0.few in let b = c.loop-j.invariant.1 in omega arith
-
-pub overflow_add-j : goal.overflow_add-j
-overflow_add-j t c = let f = c.parts_of-n.ensures.1 in let q = c.loop-j-test.true in omega arith
-
-pub loop-j-smaller : goal.loop-j-smaller
-loop-j-smaller t c = let q = c.loop-j-test.true in omega arith
 
 pub loop-j-preserved : goal.loop-j-preserved
 loop-j-preserved t c =

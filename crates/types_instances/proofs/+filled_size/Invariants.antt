@@ -13,6 +13,3 @@ decreases-filled_size l = length (heap l.a.now l.d.now) - l.p
 
 abbrev pub invariant-loop-j : goal.invariant-loop-j
 invariant-loop-j l = (l.p < l.at) × (l.sum ≤ 33) × ((g : Ty) (hs : Tys) → Reads (heap l.a l.d) l.p g → Row (heap l.a l.d) l.row hs → Totalling (heap l.a l.d) hs l.w l.at l.n l.j l.sum (size (fill hs g)) (l.p + length (words g)))
-
-abbrev pub decreases-loop-j : goal.decreases-loop-j
-decreases-loop-j l = l.n - l.j

@@ -1,22 +1,13 @@
 use Rattle.types_cells.proofs.Words.{run_length}
-use mathlib.Core.Path.{refl, sym, ap, ◌∙◌}
+use mathlib.Core.Path.{refl, ap, ◌∙◌}
 use native.Mathlib.Omega.{arith}
-use Prim.Native.Nat.{◌+◌, ◌-◌}
+use Prim.Native.Nat.{◌+◌}
 use lib.ListN.{length, length-append}
 use Rattle.types_cells.specs.Store.{run}
 use Rattle.types_cells.specs.Settled.{heap}
 use Rattle.types_cells.proofs.Reading.{heap_length, place_few}
 use Rattle.types_instances.proofs.FillWords.{body, fill_words, lead_inside, emit_start, emit_step, emit_end, wrote_all}
 use Rattle.types_instances.proofs.+write_filled.Goals as goal
-
-pub type_word-t-requires : goal.type_word-t-requires
-type_word-t-requires t c = c.requires.filling.actuals.areas.size
-
-pub write_actual-requires : goal.write_actual-requires
-write_actual-requires t c = (c.requires, sym c.type_word-t.ensures.0 ∙ c.if-t-eq-PARAMETER.true)
-
-pub returns-then-t-eq-PARAMETER : goal.returns-then-t-eq-PARAMETER
-returns-then-t-eq-PARAMETER t c = c.write_actual.ensures
 
 pub parts_of-n-requires : goal.parts_of-n-requires
 parts_of-n-requires t c = let P = c.requires.filling in let f = place_few _ _ _ _ P.actuals.areas P.reads in (P.actuals.areas.size, omega arith)
@@ -87,12 +78,6 @@ skip-q-requires t c =
     let S = emit_step _ _ _ _ _ _ _ _ _ _ (c.loop-j.invariant.2 P.type P.actuals.types P.reads P.actuals.stand) c.loop-j-test.true in
     record { areas = P.actuals.areas; readable = record { type = S.part; reads = S.reads } }
 
-pub overflow_add-j : goal.overflow_add-j
-overflow_add-j t c = let f = c.parts_of-n.ensures.1 in let q = c.loop-j-test.true in omega arith
-
-pub loop-j-smaller : goal.loop-j-smaller
-loop-j-smaller t c = let q = c.loop-j-test.true in omega arith
-
 pub loop-j-preserved : goal.loop-j-preserved
 loop-j-preserved t c =
     let P = c.requires.filling in
@@ -106,9 +91,6 @@ loop-j-preserved t c =
           let U = emit_step _ _ _ _ _ _ _ _ _ _ (c.loop-j.invariant.2 g hs R S) l in
           U.next _ _ _ _ _ c.put_words-e-in-loop-j.ensures (c.write_filled-e.ensures.is U.part hs U.reads S) (c.skip-q.ensures.is U.part U.reads),
     )
-
-pub shape_of-out : goal.shape_of-out
-shape_of-out t c = c.loop-j.invariant.1 ∙ c.put_words-e.auto.out
 
 pub returns : goal.returns
 returns t c =

@@ -13,6 +13,3 @@ decreases-write_filled l = length (heap l.a.now l.d.now) - l.p
 
 abbrev pub invariant-loop-j : goal.invariant-loop-j
 invariant-loop-j l = (l.p < l.q) × (length l.out ≡ length l.initial.out) × ((g : Ty) (hs : Tys) → Reads (heap l.a l.d) l.p g → Row (heap l.a l.d) l.row hs → Emitting (heap l.a l.d) hs l.w l.q l.n l.j l.out l.e (sets l.initial.out l.initial.e (body hs g)) (l.initial.e + length (body hs g)))
-
-abbrev pub decreases-loop-j : goal.decreases-loop-j
-decreases-loop-j l = l.n - l.j

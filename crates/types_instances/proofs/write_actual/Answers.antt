@@ -12,14 +12,11 @@ use Rattle.types_cells.proofs.Reading.{place_few, inside}
 use Rattle.types_instances.specs.Fill.{nth_type, actual_type, fill}
 use Rattle.types_instances.specs.Filled.{place_of}
 use Rattle.types_instances.proofs.Rows.{row_some, actual_none, actual_some, parameter_fill, parameter_words}
-use Rattle.types_instances.proofs.FillWords.{run_words_lem}
+use Rattle.types_solver.proofs.Copying.{run_words_lem}
 use Rattle.types_instances.proofs.write_actual.Goals as goal
 
 pub overflow_add-p : goal.overflow_add-p
 overflow_add-p c = let P = c.requires.0 in let f = place_few _ _ _ _ P.filling.actuals.areas P.filling.reads in omega arith
-
-pub type_word-requires : goal.type_word-requires
-type_word-requires c = c.requires.0.filling.actuals.areas.size
 
 pub put_words-requires : goal.put_words-requires
 put_words-requires c =

@@ -1,16 +1,9 @@
 use mathlib.Core.Path.{sym, subst}
-use native.Mathlib.Omega.{arith}
 use Rattle.types_rules.specs.Words.{words}
 use Rattle.types_cells.specs.Settled.{heap}
 use Rattle.types_solver.specs.Written.{Wrote}
 use Rattle.types_instances.proofs.Rows.{none_stays}
 use Rattle.types_instances.proofs.write_instance.Goals as goal
-
-pub put_type-requires : goal.put_type-requires
-put_type-requires c =
-    let P = c.requires in
-    let r = P.room in
-    (record { areas = P.filling.actuals.areas; readable = record { type = P.filling.type; reads = P.filling.reads } }, omega arith)
 
 pub returns-then-row-eq0 : goal.returns-then-row-eq0
 returns-then-row-eq0 c =

@@ -1,6 +1,6 @@
 use mathlib.Core.Path.{sym, subst}
 use Prim.Native.Nat.{ℕ}
-use Rattle.checker_rules.specs.declared.Finding.TheVariants.{Refused}
+use Rattle.reader_rules.specs.Refusals.{Refused}
 use Rattle.printer_rules.specs.Print.{print_of}
 use Rattle.printer_rules.specs.Buffer.{Printed}
 use Rattle.zcheck.proofs.Reports.{broken_prints}

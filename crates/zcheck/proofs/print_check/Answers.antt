@@ -1,7 +1,7 @@
+use Rattle.std.specs.Prelude.{Err}
 use native.Mathlib.Omega.{arith}
 use contract.Lifetimes.{Lfts}
-use Rattle.checker_rules.specs.declared.Finding.{Finding}
-use Rattle.checker_rules.specs.declared.Finding.TheVariants.{Accepted, Refused}
+use Rattle.reader_rules.specs.Refusals.{Finding, Accepted, Refused}
 use Rattle.printer_rules.specs.Bounds.{OfWords, no_place, placed}
 use Rattle.zcheck.proofs.Reports.{check_prints}
 use Rattle.zcheck.proofs.print_check.Goals as goal
@@ -10,7 +10,7 @@ use Rattle.zcheck.proofs.print_check.Lts as lts
 -- a finding's number and place are words
 of_words : (κs : Lfts 3) (f : Finding) → (lts.r-0).is.Ok κs f → OfWords f
 of_words κs Accepted o = no_place
-of_words κs (Refused n p) o = placed {number = n} {place = p} (omega (arith, o.1.1.1.1.0)) (omega (arith, o.1.1.1.1.1.0))
+of_words κs (Err err) o = placed {number = err.number} {place = err.place} (omega arith) (omega arith)
 
 pub returns : goal.returns
 returns c =

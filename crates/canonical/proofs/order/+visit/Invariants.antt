@@ -1,5 +1,5 @@
 use mathlib.Core.Path.{◌≡◌}
-use Prim.Native.Nat.{◌+◌, ◌-◌, ◌≤◌}
+use Prim.Native.Nat.{◌+◌}
 use lib.ListN.{length}
 use lib.Seq.{sets}
 use Rattle.canonical.proofs.VisitLaws.{numbers_from, Left}
@@ -9,7 +9,4 @@ abbrev pub decreases-visit : goal.decreases-visit
 decreases-visit l = l.k
 
 abbrev pub invariant-loop-i : goal.invariant-loop-i
-invariant-loop-i l = (1 ≤ l.i) × (l.i ≤ l.n + 1) × (length l.order ≡ length l.initial.order) × Left l.doc l.w l.n l.i l.end l.order (sets l.initial.order l.initial.end (numbers_from l.doc l.w l.n 1)) (l.initial.end + length (numbers_from l.doc l.w l.n 1))
-
-abbrev pub decreases-loop-i : goal.decreases-loop-i
-decreases-loop-i l = l.n + 1 - l.i
+invariant-loop-i l = (length l.order ≡ length l.initial.order) × Left l.doc l.w l.n l.i l.end l.order (sets l.initial.order l.initial.end (numbers_from l.doc l.w l.n 1)) (l.initial.end + length (numbers_from l.doc l.w l.n 1))

@@ -1,6 +1,5 @@
 use mathlib.Core.Path.{◌≡◌}
 use mathlib.Core.List.{map}
-use Prim.Native.Nat.{◌-◌, ◌≤◌}
 use lib.ListN.{length}
 use lib.Seq.{sets}
 use Rattle.layout.specs.Layout.{part}
@@ -9,7 +8,4 @@ use Rattle.canonical.proofs.RowLaws.{PairsLeft}
 use Rattle.canonical.proofs.rows.put_pairs.Given as goal
 
 abbrev pub invariant-loop-i : goal.invariant-loop-i
-invariant-loop-i l = (l.i ≤ l.n) × (length l.output ≡ length l.initial.output) × PairsLeft (part l.doc) l.nodes l.i l.at l.output (sets l.initial.output 1 (row_pairs (map (part l.doc) l.nodes) l.initial.at))
-
-abbrev pub decreases-loop-i : goal.decreases-loop-i
-decreases-loop-i l = l.n - l.i
+invariant-loop-i l = (length l.output ≡ length l.initial.output) × PairsLeft (part l.doc) l.nodes l.i l.at l.output (sets l.initial.output 1 (row_pairs (map (part l.doc) l.nodes) l.initial.at))

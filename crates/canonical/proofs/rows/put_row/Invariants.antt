@@ -1,5 +1,5 @@
 use mathlib.Core.Path.{◌≡◌}
-use Prim.Native.Nat.{◌+◌, ◌-◌, ◌≤◌}
+use Prim.Native.Nat.{◌+◌}
 use lib.ListN.{length, drop}
 use lib.Seq.{sets}
 use Rattle.canonical_rules.specs.RowMap.{map_row}
@@ -7,7 +7,4 @@ use Rattle.canonical.specs.Rows.{table_at}
 use Rattle.canonical.proofs.rows.put_row.Given as goal
 
 abbrev pub invariant-loop-i : goal.invariant-loop-i
-invariant-loop-i l = let v = map_row (table_at l.numbers) l.w in (1 ≤ l.i) × (l.i ≤ l.n) × (length l.output ≡ length l.initial.output) × (sets l.initial.output (l.at + 1) (drop 1 v) ≡ sets l.output (l.at + l.i) (drop l.i v))
-
-abbrev pub decreases-loop-i : goal.decreases-loop-i
-decreases-loop-i l = l.n - l.i
+invariant-loop-i l = let v = map_row (table_at l.numbers) l.w in (length l.output ≡ length l.initial.output) × (sets l.initial.output (l.at + 1) (drop 1 v) ≡ sets l.output (l.at + l.i) (drop l.i v))

@@ -2,8 +2,8 @@ use Rattle.checker_closing.specs.Actuals.{refused, fits}
 use mathlib.Core.Path.{refl}
 use Rattle.checker_closing.proofs.actual.placed.Goals as goal
 
-pub returns-then-e-ne0 : goal.returns-then-e-ne0
-returns-then-e-ne0 c = refused _ _ _ c.element_type-e.ensures c.if-e-ne0.true refl c.lined_at.ensures
+pub returns-in-Ok : goal.returns-in-Ok
+returns-in-Ok c = fits 0 c.in-Ok.e.size c.in-Ok.e.end c.in-Ok.ensures refl c.store.ensures c.lined_at.ensures
 
-pub returns : goal.returns
-returns c = fits _ _ _ c.element_type-e.ensures c.if-e-ne0.false c.store.ensures c.lined_at-2.ensures
+pub returns-in-Err : goal.returns-in-Err
+returns-in-Err c = refused c.in-Err.number 0 0 (c.in-Err.ensures.1 (record { size = 0; end = 0 })) c.in-Err.ensures.0 refl c.lined_at-in-Err.ensures

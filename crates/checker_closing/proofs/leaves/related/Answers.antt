@@ -5,10 +5,10 @@ pub equality-requires : goal.equality-requires
 equality-requires c = comparing _ _ _ _ _ _ c.requires.2
 
 pub returns-then-q-eq-EQUAL : goal.returns-then-q-eq-EQUAL
-returns-then-q-eq-EQUAL c = as_equality _ _ _ _ _ _ _ _ _ _ c.if-q-eq-EQUAL.true (c.equality.ensures _)
+returns-then-q-eq-EQUAL c = as_equality c.args.a.now c.equality.new.a c.args.d.now c.args.n c.args.top c.args.x c.args.y c.equality.result c.args.q c.if-q-eq-EQUAL.true (c.equality.ensures _)
 
 pub returns-then-q-eq-MEMBER : goal.returns-then-q-eq-MEMBER
-returns-then-q-eq-MEMBER c = as_membership _ _ _ _ _ _ _ _ _ _ c.if-q-eq-MEMBER.true c.membership.ensures
+returns-then-q-eq-MEMBER c = as_membership c.args.a.now c.membership.new.a c.args.d.now c.args.n c.args.top c.args.x c.args.y c.membership.result c.args.q c.if-q-eq-MEMBER.true c.membership.ensures
 
 pub returns : goal.returns
-returns c = as_comparison _ _ _ _ _ _ _ _ _ _ c.requires.0 c.requires.1 c.if-q-eq-EQUAL.false c.if-q-eq-MEMBER.false (c.comparison.ensures _)
+returns c = as_comparison c.args.a.now c.comparison.new.a c.args.d.now c.args.n c.args.top c.args.x c.args.y c.comparison.result c.args.q c.requires.0 c.requires.1 c.if-q-eq-EQUAL.false c.if-q-eq-MEMBER.false (c.comparison.ensures _)

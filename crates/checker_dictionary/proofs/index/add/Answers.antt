@@ -1,10 +1,7 @@
 use Rattle.std.proofs.Common.{ℕ, List, sym, ◌∙◌, subst}
 use Rattle.checker_dictionary.specs.Index.{bucket_of, IndexedTo}
-use Rattle.checker_dictionary.proofs.IndexLaws.{indexed_past, indexed_more}
+use Rattle.checker_dictionary.proofs.IndexLaws.{indexed_more}
 use Rattle.checker_dictionary.proofs.index.add.Goals as goal
-
-pub returns-then-k-gt-ROOM : goal.returns-then-k-gt-ROOM
-returns-then-k-gt-ROOM c = λ I. indexed_past _ _ _ c.if-k-gt-ROOM.true I
 
 pub returns : goal.returns
 unfolding bucket_of

@@ -17,9 +17,6 @@ returns-then-is_entry c =
     let C = c.loop-k.invariant.1 I in
     newest_hit _ _ (omega arith) (sym c.is_entry.ensures ∙ c.if-is_entry.true) ∙ sym C.rest
 
-pub overflow_add-k : goal.overflow_add-k
-overflow_add-k c = let h = c.loop-k.invariant.0 in omega arith
-
 pub returns-then-k-older : goal.returns-then-k-older
 returns-then-k-older c =
     λ I.

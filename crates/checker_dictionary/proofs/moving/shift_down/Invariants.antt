@@ -1,9 +1,6 @@
-use Rattle.std.proofs.Common.{◌≡◌, ◌-◌, ◌≤◌, length, take, drop}
+use Rattle.std.proofs.Common.{◌≡◌, take, drop}
 use lib.Seq.{sets}
 use Rattle.checker_dictionary.proofs.moving.shift_down.Given as goal
 
 abbrev pub invariant-loop-i : goal.invariant-loop-i
-invariant-loop-i l = (l.i ≤ l.m) × (length l.d ≡ length l.initial.d) × (l.d ≡ sets l.initial.d l.to (take l.i (drop l.from l.initial.d)))
-
-abbrev pub decreases-loop-i : goal.decreases-loop-i
-decreases-loop-i l = l.m - l.i
+invariant-loop-i l = l.d ≡ sets l.initial.d l.to (take l.i (drop l.from l.initial.d))

@@ -127,12 +127,6 @@ skip-to-requires t c =
     let M = match_step _ _ _ _ _ _ _ _ _ (c.loop-j.invariant.1 _ _ _ P.left.reads P.right.reads P.actuals.stand) c.loop-j-test.true in
     record { areas = P.actuals.areas; readable = record { type = M.other; reads = M.there } }
 
-pub overflow_add-j : goal.overflow_add-j
-overflow_add-j t c = let f = c.parts_of-n.ensures.1 in let q = c.loop-j-test.true in omega arith
-
-pub loop-j-smaller : goal.loop-j-smaller
-loop-j-smaller t c = let q = c.loop-j-test.true in omega arith
-
 pub loop-j-preserved : goal.loop-j-preserved
 loop-j-preserved t c =
     let P = c.requires in

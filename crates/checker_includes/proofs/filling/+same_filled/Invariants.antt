@@ -11,6 +11,3 @@ decreases-same_filled l = length (heap l.a.now l.d.now) - l.p
 
 abbrev pub invariant-loop-j : goal.invariant-loop-j
 invariant-loop-j l = (l.p < l.at) × ((g h : Ty) (hs : Tys) → Reads (heap l.a l.d) l.p g → Reads (heap l.a l.d) l.q h → Row (heap l.a l.d) l.row hs → Matching (heap l.a l.d) hs l.w l.at l.to l.n l.j g h)
-
-abbrev pub decreases-loop-j : goal.decreases-loop-j
-decreases-loop-j l = l.n - l.j

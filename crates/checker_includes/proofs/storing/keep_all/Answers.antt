@@ -3,33 +3,30 @@ use Rattle.checker_includes.proofs.KeepAll.{all_start, all_short, step_asked, al
 use Rattle.checker_includes.proofs.storing.keep_all.Goals as goal
 
 pub loop-j-init : goal.loop-j-init
-loop-j-init c = (omega arith, all_start _ _ _ _ _ _ _ _ _ _ c.requires)
+loop-j-init c = all_start _ _ _ _ _ _ _ _ _ _ c.requires
 
 pub overflow_mul-j : goal.overflow_mul-j
-overflow_mul-j c = let P = c.requires in let I = c.loop-j.invariant in let r = P.beside.1 in let q = P.near in let x = P.room in let y = I.1.more in let z = all_short _ _ _ _ _ _ _ _ _ _ P _ _ _ I.1 in let u = P.many in let t = c.loop-j-test.true in omega arith
+overflow_mul-j c = let P = c.requires in let I = c.loop-j.invariant in let r = P.beside.1 in let q = P.near in let x = P.room in let y = I.more in let z = all_short _ _ _ _ _ _ _ _ _ _ P _ _ _ I in let u = P.many in let t = c.loop-j-test.true in omega arith
 
 pub overflow_add-source : goal.overflow_add-source
-overflow_add-source c = let P = c.requires in let I = c.loop-j.invariant in let r = P.beside.1 in let q = P.near in let x = P.room in let y = I.1.more in let z = all_short _ _ _ _ _ _ _ _ _ _ P _ _ _ I.1 in let u = P.many in let t = c.loop-j-test.true in omega arith
+overflow_add-source c = let P = c.requires in let I = c.loop-j.invariant in let r = P.beside.1 in let q = P.near in let x = P.room in let y = I.more in let z = all_short _ _ _ _ _ _ _ _ _ _ P _ _ _ I in let u = P.many in let t = c.loop-j-test.true in omega arith
 
 pub overflow_sub-e : goal.overflow_sub-e
-overflow_sub-e c = let P = c.requires in let I = c.loop-j.invariant in let r = P.beside.1 in let q = P.near in let x = P.room in let y = I.1.more in let z = all_short _ _ _ _ _ _ _ _ _ _ P _ _ _ I.1 in let u = P.many in let t = c.loop-j-test.true in omega arith
+overflow_sub-e c = let P = c.requires in let I = c.loop-j.invariant in let r = P.beside.1 in let q = P.near in let x = P.room in let y = I.more in let z = all_short _ _ _ _ _ _ _ _ _ _ P _ _ _ I in let u = P.many in let t = c.loop-j-test.true in omega arith
 
 pub overflow_add-at : goal.overflow_add-at
-overflow_add-at c = let P = c.requires in let I = c.loop-j.invariant in let r = P.beside.1 in let q = P.near in let x = P.room in let y = I.1.more in let z = all_short _ _ _ _ _ _ _ _ _ _ P _ _ _ I.1 in let u = P.many in let t = c.loop-j-test.true in omega arith
+overflow_add-at c = let P = c.requires in let I = c.loop-j.invariant in let r = P.beside.1 in let q = P.near in let x = P.room in let y = I.more in let z = all_short _ _ _ _ _ _ _ _ _ _ P _ _ _ I in let u = P.many in let t = c.loop-j-test.true in omega arith
 
 pub keep_row-e-requires : goal.keep_row-e-requires
-keep_row-e-requires c = step_asked _ _ _ _ _ _ _ _ _ _ c.requires _ _ _ c.loop-j-test.true c.loop-j.invariant.1
-
-pub loop-j-smaller : goal.loop-j-smaller
-loop-j-smaller c = let l = c.loop-j-test.true in omega arith
+keep_row-e-requires c = step_asked _ _ _ _ _ _ _ _ _ _ c.requires _ _ _ c.loop-j-test.true c.loop-j.invariant
 
 pub loop-j-preserved : goal.loop-j-preserved
 loop-j-preserved c =
     let l = c.loop-j-test.true in
-    (omega arith, all_step _ _ _ _ _ _ _ _ _ _ c.requires _ _ _ l c.loop-j.invariant.1 _ _ c.keep_row-e.ensures)
+    all_step _ _ _ _ _ _ _ _ _ _ c.requires _ _ _ l c.loop-j.invariant _ _ c.keep_row-e.ensures
 
 pub shape_of-w : goal.shape_of-w
-shape_of-w c = c.loop-j.invariant.1.size
+shape_of-w c = c.loop-j.invariant.size
 
 pub returns : goal.returns
-returns c = all_end _ _ _ _ _ _ _ _ _ _ c.requires _ _ _ c.loop-j.invariant.0 c.loop-j-test.false c.loop-j.invariant.1
+returns c = all_end _ _ _ _ _ _ _ _ _ _ c.requires _ _ _ (omega arith) c.loop-j-test.false c.loop-j.invariant

@@ -1,11 +1,7 @@
 use mathlib.Core.Path.{◌≡◌}
-use Prim.Native.Nat.{◌-◌, ◌≤◌}
 use lib.ListN.{length}
 use Rattle.checker_includes.proofs.LargeLaws.{Put}
 use Rattle.checker_includes.proofs.storing.put_large.Given as goal
 
 abbrev pub invariant-loop-j : goal.invariant-loop-j
-invariant-loop-j l = (l.j ≤ 32) × (length l.a ≡ length l.initial.a) × Put l.initial.a l.a l.at l.j
-
-abbrev pub decreases-loop-j : goal.decreases-loop-j
-decreases-loop-j l = 32 - l.j
+invariant-loop-j l = (length l.a ≡ length l.initial.a) × Put l.initial.a l.a l.at l.j

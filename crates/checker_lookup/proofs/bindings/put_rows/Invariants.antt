@@ -1,11 +1,7 @@
 use mathlib.Core.Path.{◌≡◌}
-use Prim.Native.Nat.{◌-◌, ◌≤◌}
 use lib.ListN.{length}
 use Rattle.checker_lookup.specs.Bindings.{RowsPut}
 use Rattle.checker_lookup.proofs.bindings.put_rows.Given as goal
 
 abbrev pub invariant-loop-j : goal.invariant-loop-j
-invariant-loop-j l = (l.j ≤ l.m) × (length l.a ≡ length l.initial.a) × RowsPut l.initial.a l.a l.w l.base l.m l.first l.n l.top l.j
-
-abbrev pub decreases-loop-j : goal.decreases-loop-j
-decreases-loop-j l = l.m - l.j
+invariant-loop-j l = (length l.a ≡ length l.initial.a) × RowsPut l.initial.a l.a l.w l.base l.m l.first l.n l.top l.j

@@ -5,10 +5,10 @@ pub are_powers-number-requires : goal.are_powers-number-requires
 are_powers-number-requires c = powering _ _ _ _ _ _ _ c.requires
 
 pub returns-then-number-ne0 : goal.returns-then-number-ne0
-returns-then-number-ne0 c = applied_not _ _ _ _ _ _ _ c.requires _ _ c.are_powers-number.ensures c.if-number-ne0.true
+returns-then-number-ne0 c = record { is = (c.if-number-ne0.true, λ g l. applied_not _ _ _ _ _ _ _ c.requires _ _ c.are_powers-number.ensures c.if-number-ne0.true g.cell g.cells g.top) }
 
-pub instance-g-requires : goal.instance-g-requires
-instance-g-requires c = applied_ask _ _ _ _ _ _ _ c.requires _ _ c.are_powers-number.ensures c.if-number-ne0.false
+pub instance-requires : goal.instance-requires
+instance-requires c = applied_ask _ _ _ _ _ _ _ c.requires _ _ c.are_powers-number.ensures c.if-number-ne0.false
 
 pub returns : goal.returns
-returns c = applied _ _ _ _ _ _ _ c.requires _ _ c.are_powers-number.ensures c.if-number-ne0.false _ _ _ _ c.instance-g.ensures
+returns c = record { is = applied _ _ _ _ _ _ _ c.requires _ _ c.are_powers-number.ensures c.if-number-ne0.false _ _ _ _ c.instance.ensures }

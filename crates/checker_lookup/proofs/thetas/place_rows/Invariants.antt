@@ -1,11 +1,7 @@
 use Rattle.checker_lookup.proofs.PlacedLaws.{Placing}
 use lib.ListN.{length}
-use Prim.Native.Nat.{◌-◌, ◌≤◌}
 use mathlib.Core.Path.{◌≡◌}
 use Rattle.checker_lookup.proofs.thetas.place_rows.Given as goal
 
 abbrev pub invariant-loop-j : goal.invariant-loop-j
-invariant-loop-j l = (l.j ≤ l.m) × (length l.w ≡ length l.initial.w) × Placing l.d l.initial.w l.w l.rows l.base l.j l.stroke
-
-abbrev pub decreases-loop-j : goal.decreases-loop-j
-decreases-loop-j l = l.m - l.j
+invariant-loop-j l = (length l.w ≡ length l.initial.w) × Placing l.d l.initial.w l.w l.rows l.base l.j l.stroke

@@ -4,6 +4,7 @@ use Prim.Native.Nat.{◌<◌}
 use Rattle.checker_nodes.proofs.ActualNodes.{actual_lower, node_actuals_none, node_actual_ask, node_actual_asked, node_actual_refused, node_actuals_next, node_actuals_done}
 use mathlib.Core.Path.{refl}
 use Rattle.checker_kinds.specs.Equations.{apply_items}
+use Rattle.checker_nodes.proofs.ExprNodes.{ruled_done, visit_done}
 use Rattle.checker_nodes.proofs.ExprNodes.{apply_node, joining_start, joining_stop, joining_then_start, joining_then_stop, joining_rule, joining_end}
 use Rattle.checker_kinds.specs.Equations.{arithmetic_items}
 use Rattle.checker_nodes.proofs.ExprNodes.{arithmetic_node, joining_start, joining_stop, joining_then_start, joining_then_stop, joining_rule, joining_end}
@@ -15,7 +16,6 @@ use Rattle.checker_nodes.proofs.WaitingNodes.{compr_node, compr_save, compr_text
 use lib.ListN.{get_or}
 use Rattle.checker_nodes.proofs.PredLaws.{at_first, at_first_stopped, at_second, at_connected}
 use Rattle.checker_nodes.proofs.DeclNodes.{node_decl_lower, node_decl_ask, node_decl_asked, node_decl_told}
-use Prim.Native.Nat.{◌-◌}
 use mathlib.Core.Logic.{⊎_elim}
 use Rattle.reader_rules.proofs.TreeExpr.{expr_range}
 use Rattle.checker_nodes.proofs.ExprNodes.{handed_node, past}
@@ -129,8 +129,8 @@ apply-returns-then-y-ne0 t c = let K = c.requires.2 in let O = apply_node c.requ
 pub apply-apply_rule-r-requires : goal.apply-apply_rule-r-requires
 apply-apply_rule-r-requires t c = let K = c.requires.2 in let O = apply_node c.requires.0 _ c.word.ensures.0 _ c.word-2.ensures.0 c.requires.1 in joining_rule apply_items O K c.expr-x.ensures c.if-x-ne0.false c.expr-y.ensures c.if-y-ne0.false 4 (omega arith)
 
-pub apply-visit_at-requires : goal.apply-visit_at-requires
-apply-visit_at-requires t c = let z = c.requires.0.at.small in omega arith
+pub apply-ruled_at-requires : goal.apply-ruled_at-requires
+apply-ruled_at-requires t c = let z = c.requires.0.at.small in omega arith
 
 pub apply-shape_of-a : goal.apply-shape_of-a
 apply-shape_of-a t c = c.apply_rule-r.auto.a ∙ c.expr-y.auto.a ∙ c.expr-x.auto.a
@@ -139,7 +139,7 @@ pub apply-shape_of-w : goal.apply-shape_of-w
 apply-shape_of-w t c = c.expr-y.auto.w ∙ c.expr-x.auto.w
 
 pub apply-returns : goal.apply-returns
-apply-returns t c = let K = c.requires.2 in let O = apply_node c.requires.0 _ c.word.ensures.0 _ c.word-2.ensures.0 c.requires.1 in joining_end apply_items O K c.expr-x.ensures c.if-x-ne0.false c.expr-y.ensures c.if-y-ne0.false (omega arith) c.apply_rule-r.auto.a c.apply_rule-r.ensures c.visit_at.ensures
+apply-returns t c = let K = c.requires.2 in let O = apply_node c.requires.0 _ c.word.ensures.0 _ c.word-2.ensures.0 c.requires.1 in ruled_done c.apply_rule-r.result c.ruled_at.ensures c.apply_rule-r.ensures (λ number g R. joining_end apply_items O K c.expr-x.ensures c.if-x-ne0.false c.expr-y.ensures c.if-y-ne0.false (omega arith) c.apply_rule-r.auto.a R)
 
 pub arith-expr-x-requires : goal.arith-expr-x-requires
 arith-expr-x-requires t c = let K = c.requires.3 in let O = arithmetic_node c.requires.0 _ c.word.ensures.0 _ refl c.requires.1 c.requires.2 in let x = O.left.below in let y = c.decreases in (omega arith, (O.left.at, joining_start arithmetic_items O K))
@@ -156,8 +156,8 @@ arith-returns-then-y-ne0 t c = let K = c.requires.3 in let O = arithmetic_node c
 pub arith-arithmetic_rule-r-requires : goal.arith-arithmetic_rule-r-requires
 arith-arithmetic_rule-r-requires t c = let K = c.requires.3 in let O = arithmetic_node c.requires.0 _ c.word.ensures.0 _ c.word-2.ensures.0 c.requires.1 c.requires.2 in joining_rule arithmetic_items O K c.expr-x.ensures c.if-x-ne0.false c.expr-y.ensures c.if-y-ne0.false 1 (omega arith)
 
-pub arith-visit_at-requires : goal.arith-visit_at-requires
-arith-visit_at-requires t c = let z = c.requires.0.at.small in omega arith
+pub arith-ruled_at-requires : goal.arith-ruled_at-requires
+arith-ruled_at-requires t c = let z = c.requires.0.at.small in omega arith
 
 pub arith-shape_of-a : goal.arith-shape_of-a
 arith-shape_of-a t c = c.arithmetic_rule-r.auto.a ∙ c.expr-y.auto.a ∙ c.expr-x.auto.a
@@ -166,7 +166,7 @@ pub arith-shape_of-w : goal.arith-shape_of-w
 arith-shape_of-w t c = c.expr-y.auto.w ∙ c.expr-x.auto.w
 
 pub arith-returns : goal.arith-returns
-arith-returns t c = let K = c.requires.3 in let O = arithmetic_node c.requires.0 _ c.word.ensures.0 _ c.word-2.ensures.0 c.requires.1 c.requires.2 in joining_end arithmetic_items O K c.expr-x.ensures c.if-x-ne0.false c.expr-y.ensures c.if-y-ne0.false (omega arith) c.arithmetic_rule-r.auto.a c.arithmetic_rule-r.ensures c.visit_at.ensures
+arith-returns t c = let K = c.requires.3 in let O = arithmetic_node c.requires.0 _ c.word.ensures.0 _ c.word-2.ensures.0 c.requires.1 c.requires.2 in ruled_done c.arithmetic_rule-r.result c.ruled_at.ensures c.arithmetic_rule-r.ensures (λ number g R. joining_end arithmetic_items O K c.expr-x.ensures c.if-x-ne0.false c.expr-y.ensures c.if-y-ne0.false (omega arith) c.arithmetic_rule-r.auto.a R)
 
 pub brings-slice_bounds-include-end : goal.brings-slice_bounds-include-end
 brings-slice_bounds-include-end t c = refl
@@ -287,8 +287,8 @@ expr-select-requires t c = let y = c.decreases in let N = handed_node c.requires
 pub expr-theta_rule-r-requires : goal.expr-theta_rule-r-requires
 expr-theta_rule-r-requires t c = let y = c.decreases in let N = handed_node c.requires.0 c.part-p.ensures in let K = c.requires.1 in let w = node_kind N _ c.word-q.ensures.0 in let i = node_word N 1 _ c.word.ensures.0 in let j = node_word N 2 _ c.word-in-39.ensures.0 in theta_asked c.requires.0 K (w ∙ c.in-39.is) _ _ i j
 
-pub expr-visit_at-requires-in-39 : goal.expr-visit_at-requires-in-39
-expr-visit_at-requires-in-39 t c = let z = c.requires.0.small in omega arith
+pub expr-ruled_at-requires : goal.expr-ruled_at-requires
+expr-ruled_at-requires t c = let z = c.requires.0.small in omega arith
 
 pub expr-sset-requires : goal.expr-sset-requires
 expr-sset-requires t c = let y = c.decreases in let N = handed_node c.requires.0 c.part-p.ensures in let K = c.requires.1 in let w = node_kind N _ c.word-q.ensures.0 in (omega arith, (N, w ∙ c.in-40.is, K))
@@ -321,7 +321,7 @@ pub expr-returns-in-38 : goal.expr-returns-in-38
 expr-returns-in-38 t c = c.select.ensures
 
 pub expr-returns-in-39 : goal.expr-returns-in-39
-expr-returns-in-39 t c = let y = c.decreases in let N = handed_node c.requires.0 c.part-p.ensures in let K = c.requires.1 in let w = node_kind N _ c.word-q.ensures.0 in let i = node_word N 1 _ c.word.ensures.0 in let j = node_word N 2 _ c.word-in-39.ensures.0 in theta_end c.requires.0 K (w ∙ c.in-39.is) _ _ i j c.theta_rule-r.auto.a c.theta_rule-r.auto.w c.theta_rule-r.ensures c.visit_at-in-39.ensures
+expr-returns-in-39 t c = let y = c.decreases in let N = handed_node c.requires.0 c.part-p.ensures in let K = c.requires.1 in let w = node_kind N _ c.word-q.ensures.0 in let i = node_word N 1 _ c.word.ensures.0 in let j = node_word N 2 _ c.word-in-39.ensures.0 in ruled_done c.theta_rule-r.result c.ruled_at.ensures c.theta_rule-r.ensures (λ number g R. theta_end c.requires.0 K (w ∙ c.in-39.is) _ _ i j c.theta_rule-r.auto.a c.theta_rule-r.auto.w R)
 
 pub expr-returns-in-40 : goal.expr-returns-in-40
 expr-returns-in-40 t c = c.sset.ensures
@@ -353,11 +353,11 @@ group-slice_bounds-set_rule-end t c = sym c.opers-x.ensures.size
 pub group-set_rule-r-requires : goal.group-set_rule-r-requires
 group-set_rule-r-requires t c = let N = c.requires.0 in let K = c.requires.3 in let O = set_node N (node_kind N _ c.word-q.ensures.0 ∙ c.if-q-eq-SET.true) in ((listing_size O K _ refl c.opers-x.ensures c.if-x-ne0.false _ refl).1, listing_operate O K _ refl c.opers-x.ensures c.if-x-ne0.false _ refl 2 (omega arith))
 
-pub group-visit_at-requires : goal.group-visit_at-requires
-group-visit_at-requires t c = let z = c.requires.0.at.small in omega arith
+pub group-ruled_at-requires : goal.group-ruled_at-requires
+group-ruled_at-requires t c = let z = c.requires.0.at.small in omega arith
 
 pub group-returns-then-q-eq-SET : goal.group-returns-then-q-eq-SET
-group-returns-then-q-eq-SET t c = let N = c.requires.0 in let K = c.requires.3 in let O = set_node N (node_kind N _ c.word-q.ensures.0 ∙ c.if-q-eq-SET.true) in listing_end O K _ refl c.opers-x.ensures c.if-x-ne0.false _ refl set_items (λ Γ. refl) (omega arith) c.set_rule-r.auto.a c.set_rule-r.ensures c.visit_at.ensures
+group-returns-then-q-eq-SET t c = let N = c.requires.0 in let K = c.requires.3 in let O = set_node N (node_kind N _ c.word-q.ensures.0 ∙ c.if-q-eq-SET.true) in ruled_done c.set_rule-r.result c.ruled_at.ensures c.set_rule-r.ensures (λ number g R. listing_end O K _ refl c.opers-x.ensures c.if-x-ne0.false _ refl set_items (λ Γ. refl) (omega arith) c.set_rule-r.auto.a R)
 
 pub group-slice_bounds-tuple_rule-end : goal.group-slice_bounds-tuple_rule-end
 group-slice_bounds-tuple_rule-end t c = sym c.opers-x.ensures.size
@@ -365,11 +365,11 @@ group-slice_bounds-tuple_rule-end t c = sym c.opers-x.ensures.size
 pub group-tuple_rule-r-requires : goal.group-tuple_rule-r-requires
 group-tuple_rule-r-requires t c = let N = c.requires.0 in let K = c.requires.3 in let O = tuple_node N (node_kind N _ c.word-q.ensures.0 ∙ c.if-q-eq-TUPLE.true) in let z = listing_size O K _ refl c.opers-x.ensures c.if-x-ne0.false _ refl in (z.0, z.1, listing_build O K _ refl c.opers-x.ensures c.if-x-ne0.false _ refl 4 (omega arith))
 
-pub group-visit_at-requires-then-q-eq-TUPLE : goal.group-visit_at-requires-then-q-eq-TUPLE
-group-visit_at-requires-then-q-eq-TUPLE t c = let z = c.requires.0.at.small in omega arith
+pub group-visit_at-requires : goal.group-visit_at-requires
+group-visit_at-requires t c = let z = c.requires.0.at.small in omega arith
 
 pub group-returns-then-q-eq-TUPLE : goal.group-returns-then-q-eq-TUPLE
-group-returns-then-q-eq-TUPLE t c = let N = c.requires.0 in let K = c.requires.3 in let O = tuple_node N (node_kind N _ c.word-q.ensures.0 ∙ c.if-q-eq-TUPLE.true) in listing_end O K _ refl c.opers-x.ensures c.if-x-ne0.false _ refl tuple_items (λ Γ. refl) (omega arith) c.tuple_rule-r.auto.a (c.tuple_rule-r.ensures _) c.visit_at-then-q-eq-TUPLE.ensures
+group-returns-then-q-eq-TUPLE t c = let N = c.requires.0 in let K = c.requires.3 in let O = tuple_node N (node_kind N _ c.word-q.ensures.0 ∙ c.if-q-eq-TUPLE.true) in visit_done c.visit_at.ensures (listing_end O K _ refl c.opers-x.ensures c.if-x-ne0.false _ refl tuple_items (λ Γ. refl) (omega arith) c.tuple_rule-r.auto.a (c.tuple_rule-r.ensures _))
 
 pub group-slice_bounds-product_rule-end : goal.group-slice_bounds-product_rule-end
 group-slice_bounds-product_rule-end t c = sym c.opers-x.ensures.size
@@ -377,11 +377,11 @@ group-slice_bounds-product_rule-end t c = sym c.opers-x.ensures.size
 pub group-product_rule-r-requires : goal.group-product_rule-r-requires
 group-product_rule-r-requires t c = let N = c.requires.0 in let K = c.requires.3 in let O = product_node N (third_kind N _ c.word-q.ensures.0 c.requires.1 c.requires.2 c.if-q-eq-SET.false c.if-q-eq-TUPLE.false) in let z = listing_size O K _ refl c.opers-x.ensures c.if-x-ne0.false _ refl in (z.0, z.1, listing_operate O K _ refl c.opers-x.ensures c.if-x-ne0.false _ refl 17 (omega arith))
 
-pub group-visit_at-requires-2 : goal.group-visit_at-requires-2
-group-visit_at-requires-2 t c = let z = c.requires.0.at.small in omega arith
+pub group-ruled_at-requires-2 : goal.group-ruled_at-requires-2
+group-ruled_at-requires-2 t c = let z = c.requires.0.at.small in omega arith
 
 pub group-returns : goal.group-returns
-group-returns t c = let N = c.requires.0 in let K = c.requires.3 in let O = product_node N (third_kind N _ c.word-q.ensures.0 c.requires.1 c.requires.2 c.if-q-eq-SET.false c.if-q-eq-TUPLE.false) in listing_end O K _ refl c.opers-x.ensures c.if-x-ne0.false _ refl product_items (λ Γ. refl) (omega arith) c.product_rule-r.auto.a c.product_rule-r.ensures c.visit_at-2.ensures
+group-returns t c = let N = c.requires.0 in let K = c.requires.3 in let O = product_node N (third_kind N _ c.word-q.ensures.0 c.requires.1 c.requires.2 c.if-q-eq-SET.false c.if-q-eq-TUPLE.false) in ruled_done c.product_rule-r.result c.ruled_at-2.ensures c.product_rule-r.ensures (λ number g R. listing_end O K _ refl c.opers-x.ensures c.if-x-ne0.false _ refl product_items (λ Γ. refl) (omega arith) c.product_rule-r.auto.a R)
 
 pub incl-slice_bounds-include-end : goal.incl-slice_bounds-include-end
 incl-slice_bounds-include-end t c = refl
@@ -405,21 +405,21 @@ include-lined_at-requires t c =
     let z = c.requires.0.at.small in
     omega arith
 
-pub include-returns-then-s-ne0 : goal.include-returns-then-s-ne0
-include-returns-then-s-ne0 t c = node_schema_refused c.requires.0 c.requires.1 c.schema_of-s.ensures c.if-s-ne0.true c.lined_at.ensures
+pub include-returns-in-Err : goal.include-returns-in-Err
+include-returns-in-Err t c = node_schema_refused c.requires.0 c.requires.1 (c.in-Err.ensures.1 0) c.in-Err.ensures.0 c.lined_at.ensures
 
 pub include-actuals-x-requires : goal.include-actuals-x-requires
 include-actuals-x-requires t c =
-    let a = node_schema_actuals c.requires.0 c.requires.1 (schema_found c.schema_of-s.ensures c.if-s-ne0.false) c.word.ensures.0 in
+    let a = node_schema_actuals c.requires.0 c.requires.1 (schema_found c.in-Ok.ensures refl) c.word.ensures.0 in
     let f = a.0 in
     let m = c.decreases in
     (omega arith, (c.requires.0, a.0, a.1, a.2))
 
 pub include-named-requires : goal.include-named-requires
-include-named-requires t c = node_schema_named c.requires.0 c.requires.1 (schema_found c.schema_of-s.ensures c.if-s-ne0.false) c.word.ensures.0 c.actuals-x.ensures
+include-named-requires t c = node_schema_named c.requires.0 c.requires.1 (schema_found c.in-Ok.ensures refl) c.word.ensures.0 c.actuals-x.ensures
 
-pub include-returns : goal.include-returns
-include-returns t c = node_schema_told c.requires.0 c.requires.1 (schema_found c.schema_of-s.ensures c.if-s-ne0.false) c.word.ensures.0 c.actuals-x.ensures c.named.ensures
+pub include-returns-in-Ok : goal.include-returns-in-Ok
+include-returns-in-Ok t c = node_schema_told c.requires.0 c.requires.1 (schema_found c.in-Ok.ensures refl) c.word.ensures.0 c.actuals-x.ensures c.named.ensures
 
 pub line-decl-requires : goal.line-decl-requires
 line-decl-requires t c =
@@ -517,11 +517,11 @@ power-returns-then-x-ne0 t c = let K = c.requires.2 in let O = power_node c.requ
 pub power-power_rule-r-requires : goal.power-power_rule-r-requires
 power-power_rule-r-requires t c = let K = c.requires.2 in let O = power_node c.requires.0 _ c.word.ensures.0 c.requires.1 in over_rule power_rule_items O K c.expr-x.ensures c.if-x-ne0.false 4 (omega arith)
 
-pub power-visit_at-requires : goal.power-visit_at-requires
-power-visit_at-requires t c = let z = c.requires.0.at.small in omega arith
+pub power-ruled_at-requires : goal.power-ruled_at-requires
+power-ruled_at-requires t c = let z = c.requires.0.at.small in omega arith
 
 pub power-returns : goal.power-returns
-power-returns t c = let K = c.requires.2 in let O = power_node c.requires.0 _ c.word.ensures.0 c.requires.1 in over_end power_rule_items O K c.expr-x.ensures c.if-x-ne0.false (omega arith) c.power_rule-r.auto.a c.power_rule-r.ensures c.visit_at.ensures
+power-returns t c = let K = c.requires.2 in let O = power_node c.requires.0 _ c.word.ensures.0 c.requires.1 in ruled_done c.power_rule-r.result c.ruled_at.ensures c.power_rule-r.ensures (λ number g R. over_end power_rule_items O K c.expr-x.ensures c.if-x-ne0.false (omega arith) c.power_rule-r.auto.a R)
 
 pub pred-verdict_at-requires : goal.pred-verdict_at-requires
 pred-verdict_at-requires t c =
@@ -643,11 +643,11 @@ refer-overflow_sub-p t c = let N = c.requires.0 in let K = c.requires.2 in let O
 pub refer-ref_rule-r-requires : goal.refer-ref_rule-r-requires
 refer-ref_rule-r-requires t c = let N = c.requires.0 in let K = c.requires.2 in let O = reference_node N c.requires.1 _ refl in listing_refer O K _ refl c.opers-x.ensures c.if-x-ne0.false _ refl
 
-pub refer-visit_at-requires : goal.refer-visit_at-requires
-refer-visit_at-requires t c = let z = c.requires.0.at.small in omega arith
+pub refer-ruled_at-requires : goal.refer-ruled_at-requires
+refer-ruled_at-requires t c = let z = c.requires.0.at.small in omega arith
 
 pub refer-returns : goal.refer-returns
-refer-returns t c = let N = c.requires.0 in let K = c.requires.2 in let O = reference_node N c.requires.1 _ c.word.ensures.0 in listing_referred O K _ refl c.opers-x.ensures c.if-x-ne0.false _ refl (λ Γ. refl) c.ref_rule-r.auto.a c.ref_rule-r.ensures c.visit_at.ensures
+refer-returns t c = let N = c.requires.0 in let K = c.requires.2 in let O = reference_node N c.requires.1 _ c.word.ensures.0 in ruled_done c.ref_rule-r.result c.ruled_at.ensures c.ref_rule-r.ensures (λ number g R. listing_referred O K _ refl c.opers-x.ensures c.if-x-ne0.false _ refl (λ Γ. refl) c.ref_rule-r.auto.a R)
 
 pub rel-expr-x-requires : goal.rel-expr-x-requires
 rel-expr-x-requires t c =
@@ -683,11 +683,11 @@ select-returns-then-x-ne0 t c = let K = c.requires.2 in let O = select_node c.re
 pub select-select_rule-r-requires : goal.select-select_rule-r-requires
 select-select_rule-r-requires t c = let K = c.requires.2 in let O = select_node c.requires.0 _ c.word.ensures.0 c.requires.1 _ refl in over_rule (select_items _) O K c.expr-x.ensures c.if-x-ne0.false 1 (omega arith)
 
-pub select-visit_at-requires : goal.select-visit_at-requires
-select-visit_at-requires t c = let z = c.requires.0.at.small in omega arith
+pub select-ruled_at-requires : goal.select-ruled_at-requires
+select-ruled_at-requires t c = let z = c.requires.0.at.small in omega arith
 
 pub select-returns : goal.select-returns
-select-returns t c = let K = c.requires.2 in let O = select_node c.requires.0 _ c.word.ensures.0 c.requires.1 _ c.word-2.ensures.0 in over_end (select_items _) O K c.expr-x.ensures c.if-x-ne0.false (omega arith) c.select_rule-r.auto.a c.select_rule-r.ensures c.visit_at.ensures
+select-returns t c = let K = c.requires.2 in let O = select_node c.requires.0 _ c.word.ensures.0 c.requires.1 _ c.word-2.ensures.0 in ruled_done c.select_rule-r.result c.ruled_at.ensures c.select_rule-r.ensures (λ number g R. over_end (select_items _) O K c.expr-x.ensures c.if-x-ne0.false (omega arith) c.select_rule-r.auto.a R)
 
 pub sset-save-e-requires : goal.sset-save-e-requires
 sset-save-e-requires t c = let N = c.requires.0 in let K = c.requires.2 in let O = sset_node N c.requires.1 _ refl in sset_save O K

@@ -1,18 +1,12 @@
 use native.Mathlib.Omega.{arith}
-use Rattle.checker_pieces.proofs.Forming.{pair_built, pair_first, pair_make, pair_second, pair_words_lem}
+use Rattle.checker_pieces.proofs.Forming.{pair_built, pair_make, pair_words_lem}
 use Rattle.checker_pieces.proofs.formers.pair.Goals as goal
 
 pub overflow_cast-x : goal.overflow_cast-x
 overflow_cast-x c = let z = pair_words_lem _ _ _ _ _ c.requires in let u = z.0 in omega arith
 
-pub add_word-requires : goal.add_word-requires
-add_word-requires c = pair_first _ _ _ _ _ c.requires
-
 pub overflow_cast-y : goal.overflow_cast-y
 overflow_cast-y c = let z = pair_words_lem _ _ _ _ _ c.requires in let u = z.1 in omega arith
-
-pub add_word-requires-2 : goal.add_word-requires-2
-add_word-requires-2 c = pair_second _ _ _ _ _ c.requires _ c.add_word.ensures
 
 pub new_cell-requires : goal.new_cell-requires
 new_cell-requires c = pair_make _ _ _ _ _ c.requires _ c.add_word.ensures _ c.add_word-2.ensures

@@ -1,12 +1,9 @@
 use native.Mathlib.Omega.{arith}
-use Rattle.checker_pieces.proofs.Forming.{power_ask, power_built, power_make, power_word}
+use Rattle.checker_pieces.proofs.Forming.{power_built, power_make, power_word}
 use Rattle.checker_pieces.proofs.formers.power.Goals as goal
 
 pub overflow_cast-c : goal.overflow_cast-c
 overflow_cast-c c = let z = power_word _ _ _ _ c.requires in omega arith
-
-pub add_word-requires : goal.add_word-requires
-add_word-requires c = power_ask _ _ _ _ c.requires
 
 pub new_cell-requires : goal.new_cell-requires
 new_cell-requires c = power_make _ _ _ _ c.requires _ c.add_word.ensures

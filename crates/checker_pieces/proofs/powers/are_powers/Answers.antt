@@ -1,8 +1,5 @@
-use Rattle.checker_pieces.proofs.PowerRows.{row_asked, powers_asked, sides_asked, are_powers_lem, rows_length_lem}
+use Rattle.checker_pieces.proofs.PowerRows.{powers_asked, sides_asked, are_powers_lem, rows_length_lem}
 use Rattle.checker_pieces.proofs.powers.are_powers.Goals as goal
-
-pub fresh_row-requires : goal.fresh_row-requires
-fresh_row-requires c = row_asked _ _ _ _ _ _ (rows_length_lem _ _ c.requires.0) c.requires.1
 
 pub power_row-requires : goal.power_row-requires
 power_row-requires c = powers_asked _ _ _ _ _ _ (rows_length_lem _ _ c.requires.0) c.requires.1 _ c.fresh_row.ensures

@@ -1,11 +1,6 @@
-use mathlib.Core.Path.{◌≡◌}
-use Prim.Native.Nat.{◌+◌, ◌-◌, ◌≤◌}
-use lib.ListN.{length}
+use Prim.Native.Nat.{◌+◌}
 use Rattle.checker_pieces.specs.Rows.{PowersMade}
 use Rattle.checker_pieces.proofs.rows.power_row.Given as goal
 
 abbrev pub invariant-loop-j : goal.invariant-loop-j
-invariant-loop-j l = (l.j ≤ l.m) × (length l.a ≡ length l.initial.a) × PowersMade l.initial.a l.a l.n l.top l.first l.j (l.n + l.j) (l.top + l.j)
-
-abbrev pub decreases-loop-j : goal.decreases-loop-j
-decreases-loop-j l = l.m - l.j
+invariant-loop-j l = PowersMade l.initial.a l.a l.n l.top l.first l.j (l.n + l.j) (l.top + l.j)

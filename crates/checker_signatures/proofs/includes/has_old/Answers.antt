@@ -1,22 +1,34 @@
-use mathlib.Core.Path.{refl, sym, ◌∙◌}
-use native.Mathlib.Omega.{arith}
-use Rattle.checker_signatures.proofs.IncludeLaws.{old_hit, old_go, old_end}
+use Rattle.std.proofs.Common.{sym, ap, ◌∙◌, arith}
+use Rattle.std.proofs.lemmas.List.{take_rest}
+use Rattle.std.specs.Slice.Iter.{chunks_exact_rest, chunks_exact_size}
+use Rattle.checker_rules.specs.Signatures.{has_old}
+use Rattle.checker_signatures.specs.Rows.{renames}
+use Rattle.checker_signatures.proofs.IncludeLaws.{renames_dropped, renames_pair, renames_none, old_hit, old_go, old_end}
 use Rattle.checker_signatures.proofs.includes.has_old.Goals as goal
 
-pub loop-p-init : goal.loop-p-init
-loop-p-init c = (omega arith, refl)
+pub loop-pair-init : goal.loop-pair-init
+loop-pair-init c =
+    let a = c.args in
+    let i = c.into_iter-pair-iterator.ensures.into_iter_gives in
+    let e = c.chunks_exact-pair-items.ensures in (
+      ap chunks_exact_size i ∙ e.size,
+      ap (has_old a.id) (renames_dropped a.i a.part.now ∙ ap (λ s. renames s 0) (sym (ap chunks_exact_rest i ∙ e.rest ∙ take_rest a.part.now a.i))),
+    )
 
 pub returns-then-word-id : goal.returns-then-word-id
 returns-then-word-id c =
-    let a = c.args in
-    sym (c.loop-p.invariant.1 ∙ old_hit a.part.now c.loop-p.p a.id c.loop-p-test.true (sym c.word.ensures.0 ∙ c.if-word-id.true))
+    let l = c.loop-pair.invariant in
+    let s = c.in-Some.ensures.steps.1 in
+    sym (l.1 ∙ old_hit _ _ _ _ _ (renames_pair _ _ _ s.0 (s.1 ∙ l.0)) (sym c.word.ensures.0 ∙ c.if-word-id.true))
 
-pub loop-p-preserved : goal.loop-p-preserved
-loop-p-preserved c =
-    let a = c.args in
-    (omega arith, c.loop-p.invariant.1 ∙ old_go a.part.now c.loop-p.p a.id c.loop-p-test.true (λ q. c.if-word-id.false (c.word.ensures.0 ∙ q)))
+pub loop-pair-preserved : goal.loop-pair-preserved
+loop-pair-preserved c =
+    let l = c.loop-pair.invariant in
+    let e = c.in-Some.ensures.steps in
+    (e.0 ∙ l.0, l.1 ∙ old_go _ _ _ _ _ (renames_pair _ _ _ e.1.0 (e.1.1 ∙ l.0)) (λ q. c.if-word-id.false (c.word.ensures.0 ∙ q)))
 
 pub returns : goal.returns
 returns c =
-    let a = c.args in
-    sym (c.loop-p.invariant.1 ∙ old_end a.part.now c.loop-p.p a.id c.loop-p-test.false)
+    let l = c.loop-pair.invariant in
+    let s = c.in-None.ensures.steps.1 in
+    sym (l.1 ∙ old_end _ _ (renames_none _ (omega (arith, s.0, l.0))))

@@ -1,11 +1,8 @@
-use mathlib.Core.Path.{◌≡◌}
-use Prim.Native.Nat.{◌-◌, ◌≤◌}
+use Rattle.std.proofs.Common.{◌≡◌}
+use Rattle.std.specs.Slice.Iter.{chunks_exact_rest, chunks_exact_size}
 use Rattle.checker_rules.specs.Signatures.{renamed}
 use Rattle.checker_signatures.specs.Rows.{renames}
 use Rattle.checker_signatures.proofs.includes.renamed.Given as goal
 
-abbrev pub invariant-loop-i : goal.invariant-loop-i
-invariant-loop-i l = (l.i ≤ l.e) × (renamed (renames l.part l.first) l.id ≡ renamed (renames l.part l.i) l.id)
-
-abbrev pub decreases-loop-i : goal.decreases-loop-i
-decreases-loop-i l = l.e - l.i
+abbrev pub invariant-loop-pair : goal.invariant-loop-pair
+invariant-loop-pair l = (chunks_exact_size l.pair-iterator ≡ 2) × (renamed (renames l.part l.first) l.id ≡ renamed (renames (chunks_exact_rest l.pair-iterator) 0) l.id)

@@ -1,11 +1,8 @@
-use mathlib.Core.Path.{refl, sym, ◌∙◌}
+use mathlib.Core.Path.{sym, ◌∙◌}
 use Prim.Native.Nat.{◌<◌}
 use native.Mathlib.Omega.{arith}
 use Rattle.checker_signatures.proofs.InsertLaws.{find_hit, find_miss, find_none}
 use Rattle.checker_signatures.proofs.tables.find.Goals as goal
-
-pub loop-j-init : goal.loop-j-init
-loop-j-init c = (omega arith, refl)
 
 pub returns-then-word-id : goal.returns-then-word-id
 returns-then-word-id c =
@@ -13,7 +10,7 @@ returns-then-word-id c =
     let e = sym c.word.ensures.0 ∙ c.if-word-id.true in
     record {
       most = omega arith;
-      there = λ q. c.loop-j.invariant.1 ∙ find_hit c.args.work.now c.args.base c.args.id c.loop-j.j h e;
+      there = λ q. c.loop-j.invariant ∙ find_hit c.args.work.now c.args.base c.args.id c.loop-j.j h e;
       present = λ q. e;
       absent = λ q. absurd (omega arith);
     }
@@ -21,7 +18,7 @@ returns-then-word-id c =
 pub loop-j-preserved : goal.loop-j-preserved
 loop-j-preserved c =
     let h : 0 < c.loop-j.j = c.loop-j-test.true in
-    (omega arith, c.loop-j.invariant.1 ∙ find_miss c.args.work.now c.args.base c.args.id c.loop-j.j h (λ q. c.if-word-id.false (c.word.ensures.0 ∙ q)))
+    c.loop-j.invariant ∙ find_miss c.args.work.now c.args.base c.args.id c.loop-j.j h (λ q. c.if-word-id.false (c.word.ensures.0 ∙ q))
 
 pub returns : goal.returns
 returns c =
@@ -29,5 +26,5 @@ returns c =
       most = omega arith;
       there = λ q. absurd (omega arith);
       present = λ q. absurd (omega arith);
-      absent = λ q. c.loop-j.invariant.1 ∙ find_none c.args.work.now c.args.base c.args.id c.loop-j.j c.loop-j-test.false;
+      absent = λ q. c.loop-j.invariant ∙ find_none c.args.work.now c.args.base c.args.id c.loop-j.j c.loop-j-test.false;
     }

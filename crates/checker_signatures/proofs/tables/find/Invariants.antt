@@ -1,10 +1,6 @@
 use mathlib.Core.Path.{◌≡◌}
-use Prim.Native.Nat.{◌≤◌}
 use Rattle.checker_signatures.specs.Rows.{rows, place_in}
 use Rattle.checker_signatures.proofs.tables.find.Given as goal
 
 abbrev pub invariant-loop-j : goal.invariant-loop-j
-invariant-loop-j l = (l.j ≤ l.m) × (place_in l.id (rows l.work l.base l.m) ≡ place_in l.id (rows l.work l.base l.j))
-
-abbrev pub decreases-loop-j : goal.decreases-loop-j
-decreases-loop-j l = l.j
+invariant-loop-j l = place_in l.id (rows l.work l.base l.m) ≡ place_in l.id (rows l.work l.base l.j)

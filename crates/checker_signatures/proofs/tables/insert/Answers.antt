@@ -1,4 +1,4 @@
-use lib.ListN.{get_or, length}
+use lib.ListN.{get_or}
 use mathlib.Core.List.{[], ◌∷◌, List}
 use lib.Seq.{sets}
 use Rattle.checker_signatures.specs.Rows.{flat, rows, insert_row}
@@ -12,46 +12,32 @@ use Rattle.checker_signatures.proofs.tables.insert.Goals as goal
 pub loop-j-init : goal.loop-j-init
 loop-j-init c =
     let a = c.args in
-    (omega arith, refl, pass_start a.work.now a.base a.m a.id a.place)
-
-pub shape_of-work-then-x-id : goal.shape_of-work-then-x-id
-shape_of-work-then-x-id c = ap length c.loop-j.invariant.1
+    (refl, pass_start a.work.now a.base a.m a.id a.place)
 
 pub returns-then-x-id : goal.returns-then-x-id
 returns-then-x-id c =
     let a = c.args in
-    let x = sym (ap (λ (u : List ℕ). get_or u (a.base + 2 * c.loop-j.j) 0) c.loop-j.invariant.1) ∙ sym c.word-x.ensures.0 ∙ c.if-x-id.true in
-    subst (λ (v : List ℕ). Table a.work.now v a.base (insert_row a.id a.place (rows a.work.now a.base a.m)) a.m) (sym c.loop-j.invariant.1)
-    (pass_there a.work.now a.base a.m a.id a.place c.loop-j.j c.loop-j-test.true x c.loop-j.invariant.2)
-
-pub put_before-requires : goal.put_before-requires
-put_before-requires c =
-    let e = ap length c.loop-j.invariant.1 in
-    (omega arith, c.requires.1, c.requires.2)
-
-pub shape_of-work-then-id-x : goal.shape_of-work-then-id-x
-shape_of-work-then-id-x c = c.put_before.auto.work ∙ ap length c.loop-j.invariant.1
+    let x = sym (ap (λ (u : List ℕ). get_or u (a.base + 2 * c.loop-j.j) 0) c.loop-j.invariant.0) ∙ sym c.word-x.ensures.0 ∙ c.if-x-id.true in
+    subst (λ (v : List ℕ). Table a.work.now v a.base (insert_row a.id a.place (rows a.work.now a.base a.m)) a.m) (sym c.loop-j.invariant.0)
+    (pass_there a.work.now a.base a.m a.id a.place c.loop-j.j c.loop-j-test.true x c.loop-j.invariant.1)
 
 pub returns-then-id-x : goal.returns-then-id-x
 returns-then-id-x c =
     let a = c.args in
     let x : a.id < get_or a.work.now (a.base + 2 * c.loop-j.j) 0 =
-    rw (← c.loop-j.invariant.1) (omega (arith, c.word-x.ensures.0, c.if-id-x.true)) in
-    pass_before a.work.now a.base a.m a.id a.place c.loop-j.j c.loop-j-test.true x c.loop-j.invariant.2 c.put_before.new.work
-    (c.put_before.ensures ∙ ap (λ (u : List ℕ). sets u (a.base + 2 * c.loop-j.j) (flat ((a.id, a.place) ∷ rows u (a.base + 2 * c.loop-j.j) (a.m - c.loop-j.j)))) c.loop-j.invariant.1)
+    rw (← c.loop-j.invariant.0) (omega (arith, c.word-x.ensures.0, c.if-id-x.true)) in
+    pass_before a.work.now a.base a.m a.id a.place c.loop-j.j c.loop-j-test.true x c.loop-j.invariant.1 c.put_before.new.work
+    (c.put_before.ensures ∙ ap (λ (u : List ℕ). sets u (a.base + 2 * c.loop-j.j) (flat ((a.id, a.place) ∷ rows u (a.base + 2 * c.loop-j.j) (a.m - c.loop-j.j)))) c.loop-j.invariant.0)
 
 pub loop-j-preserved : goal.loop-j-preserved
 loop-j-preserved c =
     let a = c.args in
     let x : get_or a.work.now (a.base + 2 * c.loop-j.j) 0 < a.id =
-    rw (← c.loop-j.invariant.1) (omega (arith, c.word-x.ensures.0, c.if-id-x.false, c.if-x-id.false)) in
-    (omega arith, c.loop-j.invariant.1, c.loop-j.invariant.2 ∙ pass_go a.work.now a.base a.m a.id a.place c.loop-j.j c.loop-j-test.true x)
-
-pub shape_of-work : goal.shape_of-work
-shape_of-work c = c.put_row.auto.work ∙ ap length c.loop-j.invariant.1
+    rw (← c.loop-j.invariant.0) (omega (arith, c.word-x.ensures.0, c.if-id-x.false, c.if-x-id.false)) in
+    (c.loop-j.invariant.0, c.loop-j.invariant.1 ∙ pass_go a.work.now a.base a.m a.id a.place c.loop-j.j c.loop-j-test.true x)
 
 pub returns : goal.returns
 returns c =
     let a = c.args in
-    pass_end a.work.now a.base a.m a.id a.place c.loop-j.j (omega arith) c.loop-j.invariant.2 c.put_row.new.work
-    (c.put_row.ensures ∙ ap (λ (u : List ℕ). sets u (a.base + 2 * a.m) (a.id ∷ a.place ∷ [])) c.loop-j.invariant.1)
+    pass_end a.work.now a.base a.m a.id a.place c.loop-j.j (omega arith) c.loop-j.invariant.1 c.put_row.new.work
+    (c.put_row.ensures ∙ ap (λ (u : List ℕ). sets u (a.base + 2 * a.m) (a.id ∷ a.place ∷ [])) c.loop-j.invariant.0)

@@ -1,4 +1,3 @@
-use lib.ListN.{length}
 use mathlib.Core.Path.{◌≡◌}
 use Prim.Native.Nat.{◌+◌, ◌-◌, ◌*◌, ◌≤◌}
 use Rattle.checker_signatures.specs.Rows.{rows, merge_rows}
@@ -6,8 +5,5 @@ use Rattle.checker_signatures.specs.Tables.{Table}
 use Rattle.checker_signatures.proofs.tables.merge.Given as goal
 
 abbrev pub invariant-loop-j : goal.invariant-loop-j
-invariant-loop-j l = (l.j ≤ l.k) × (l.n ≤ l.m + l.j) × (length l.work ≡ length l.initial.work) × Table l.initial.work l.work l.base (rows l.work l.base l.n) l.n
+invariant-loop-j l = (l.n ≤ l.m + l.j) × Table l.initial.work l.work l.base (rows l.work l.base l.n) l.n
     × (merge_rows (rows l.initial.work l.source l.k) (rows l.initial.work l.base l.m) ≡ merge_rows (rows l.initial.work (l.source + 2 * l.j) (l.k - l.j)) (rows l.work l.base l.n))
-
-abbrev pub decreases-loop-j : goal.decreases-loop-j
-decreases-loop-j l = l.k - l.j

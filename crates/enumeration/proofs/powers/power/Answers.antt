@@ -2,15 +2,11 @@ use Rattle.std.proofs.Common.{◌≡◌, ℕ, ◌-◌, ◌/◌, ◌^◌, ◌<◌
 use Rattle.values.specs.Held.{keep}
 use Rattle.values.proofs.Holding.{building_none}
 use Rattle.enumeration_rules.specs.OnWords.{power_on}
-use Rattle.enumeration.proofs.Laws.{twice_over}
 use Rattle.enumeration.proofs.Values.{set_count, power_many, power_long, power_listed}
 use Rattle.enumeration.proofs.powers.power.Goals as goal
 
 pub returns-then-n-gt-MEMBERS : goal.returns-then-n-gt-MEMBERS
 returns-then-n-gt-MEMBERS c = λ vs e l. c.over.ensures ∙ power_many vs (omega (arith, c.word-n.ensures.0, set_count _ vs e, c.if-n-gt-MEMBERS.true))
-
-pub overflow_sub-e : goal.overflow_sub-e
-overflow_sub-e c = twice_over _ _ (omega (arith, c.if-n-gt-MEMBERS.false)) c.two_to-e.ensures.0
 
 pub returns-then-e-s : goal.returns-then-e-s
 returns-then-e-s c =

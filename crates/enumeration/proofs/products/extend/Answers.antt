@@ -1,4 +1,4 @@
-use Rattle.std.proofs.Common.{◌≡◌, ℕ, List, length, sym, ap, ◌∙◌, arith}
+use Rattle.std.proofs.Common.{◌≡◌, ℕ, List, length, sym, ap, ◌∙◌}
 use Rattle.values.specs.Held.{keep}
 use Rattle.values.specs.Value.{nil, set, tuple, count, encode}
 use Rattle.values.proofs.Holding.{held_short, held_long, held_len, held_part}
@@ -16,12 +16,6 @@ returns-then-n-eq0 c =
 
 pub returns-then-len-gt-VALUE : goal.returns-then-len-gt-VALUE
 returns-then-len-gt-VALUE c = λ rs vs p e k. c.over.ensures ∙ grow_over rs vs (λ z. c.if-n-eq0.false (c.word-n.ensures.0 ∙ set_count _ vs e ∙ z)) (held_long _ _ p c.if-len-gt-VALUE.true)
-
-pub returns-then-s-gt-VALUE : goal.returns-then-s-gt-VALUE
-returns-then-s-gt-VALUE c = λ rs vs p e k. absurd (omega (arith, ap length e, c.if-s-gt-VALUE.true))
-
-pub fits-requires : goal.fits-requires
-fits-requires c = (c.word-m.ensures.1, c.if-len-gt-VALUE.false, c.word-n.ensures.1, c.if-s-gt-VALUE.false)
 
 pub returns-then-fits : goal.returns-then-fits
 returns-then-fits c =

@@ -19,11 +19,8 @@ use Prim.Native.Nat.{◌-◌}
 use mathlib.Core.Path.{◌≡◌}
 use Rattle.evaluator_nodes.proofs.nodes.+adds_all_apply_arith_assign_below_body_compr_connect_display_each_each_part_expr_factors_lines_member_negate_parts_power_pred_product_quant_reckon_refers_same_subsets_tests_tuple_tuples_turn_value.Given as goal
 
-abbrev pub invariant-each-loop-left : goal.invariant-each-loop-left
-invariant-each-loop-left l = (length l.work ≡ length l.initial.work) × (length l.s ≡ length l.initial.s) × (l.at ≤ 160) × (l.left ≤ l.c) × EachLeft l.doc l.state l.n l.m l.k l.c l.initial.work l.initial.s l.work l.s l.at l.left
-
-abbrev pub decreases-each-loop-left : goal.decreases-each-loop-left
-decreases-each-loop-left l = l.left
+abbrev pub invariant-each-loop-i : goal.invariant-each-loop-i
+invariant-each-loop-i l = (length l.work ≡ length l.initial.work) × (length l.s ≡ length l.initial.s) × (l.at ≤ 160) × EachLeft l.doc l.state l.n l.m l.k l.c l.initial.work l.initial.s l.work l.s l.at (l.c - l.i)
 
 abbrev pub decreases-adds : goal.decreases-adds
 decreases-adds l = 1099511627776 * l.k + (256 - l.i)

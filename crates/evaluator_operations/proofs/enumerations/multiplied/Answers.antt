@@ -1,8 +1,8 @@
 use Rattle.evaluator_operations.proofs.EnumerationLaws.{product_misfit, product_told}
 use Rattle.evaluator_operations.proofs.enumerations.multiplied.Goals as goal
 
-pub returns-then-j : goal.returns-then-j
-returns-then-j c = λ vs h. product_misfit _ vs h c.if-j.true c.stop.ensures
+pub returns-in-Some : goal.returns-in-Some
+returns-in-Some c = λ h vs d. product_told _ vs (rw c.in-Some.is at d) c.kept.ensures
 
-pub returns : goal.returns
-returns c = λ vs h. product_told _ vs h c.if-j.false c.kept.ensures
+pub returns-in-None : goal.returns-in-None
+returns-in-None c = λ h vs d. product_misfit _ vs (rw c.in-None.is at d) c.refusal.ensures

@@ -14,4 +14,4 @@ returns-then-word-eq-SET c =
     rw t.1 (power_told _ t.0 (rw t.1 at n) (λ m. c.kept.ensures _ p m))
 
 pub returns : goal.returns
-returns c = λ x h. power_misfit _ x (λ e. c.if-word-eq-SET.false (c.word.ensures.0 ∙ held_tag _ x h ∙ e)) c.stop.ensures
+returns c = λ x h. power_misfit _ x (λ e. c.if-word-eq-SET.false (c.word.ensures.0 ∙ held_tag _ x h ∙ e)) c.refusal.ensures

@@ -17,7 +17,7 @@ returns-then-t-gt-VALUE c =
     λ vs x g hx.
     let u = c.args.s.now in
     let e = (rw (c.span.ensures ∙ ap (λ (n : ℕ). take n u) c.word.ensures.0 ∙ set_read u vs g, c.span-2.ensures ∙ held_whole _ x hx) at c.insert-t.ensures) ∙ ap keep (insert_value_lem vs x g.short) in
-    add_over _ vs x _ (held_long _ (encode (Value.set (insert_value x vs))) e c.if-t-gt-VALUE.true) c.refuse.ensures
+    add_over _ vs x (held_long _ (encode (Value.set (insert_value x vs))) e c.if-t-gt-VALUE.true) c.refusal.ensures
 
 pub returns : goal.returns
 returns c =
@@ -26,4 +26,4 @@ returns c =
     let e = (rw (c.span.ensures ∙ ap (λ (n : ℕ). take n u) c.word.ensures.0 ∙ set_read u vs g, c.span-2.ensures ∙ held_whole _ x hx) at c.insert-t.ensures) ∙ ap keep (insert_value_lem vs x g.short) in
     let l = held_short _ (encode (Value.set (insert_value x vs))) e c.if-t-gt-VALUE.false in
     let h : Holds _ (Value.set (insert_value x vs)) = record { words = e; short = l; narrow = set_narrow vs x hx.narrow g.narrow } in
-    add_fits _ vs x _ l c.judge.ensures.0 (record { gathers = c.put_set.ensures (insert_value x vs) g.long h; flag = c.judge.ensures.1 })
+    add_fits _ vs x l (c.put_set.ensures (insert_value x vs) g.long h)

@@ -5,16 +5,15 @@ use mir.ValLaws.{to_z-of_z}
 use Rattle.evaluator_operations.proofs.OperationLaws.{at_most_left, at_most_right, at_most_both}
 use Rattle.evaluator_operations.proofs.numbers.at_most.Goals as goal
 
-pub returns-in-Misfit : goal.returns-in-Misfit
-returns-in-Misfit c = λ x y hx hy. at_most_left _ 0 x y _ (sym c.in-Misfit.is ∙ hx.integer) c.refuse.ensures
+pub returns-in-None : goal.returns-in-None
+returns-in-None c = λ x y hx hy. at_most_left _ 0 x y c.refusal.ensures (sym c.in-None.is ∙ hx.integer)
 
-pub returns-in-Misfit-b : goal.returns-in-Misfit-b
-returns-in-Misfit-b c = λ x y hx hy. at_most_right _ 0 x y _ hx.narrow _ (sym c.in-Integer.is ∙ hx.integer) (sym c.in-Misfit-b.is ∙ hy.integer) c.refuse-in-Misfit-b.ensures
+pub returns-in-None-b : goal.returns-in-None-b
+returns-in-None-b c = λ x y hx hy. at_most_right _ 0 x y c.refusal-in-None-b.ensures hx.narrow _ (sym c.in-Some.is ∙ hx.integer) (sym c.in-None-b.is ∙ hy.integer)
 
-pub returns-in-Integer-b : goal.returns-in-Integer-b
-returns-in-Integer-b c =
+pub returns-in-Some-b : goal.returns-in-Some-b
+returns-in-Some-b c =
     λ x y hx hy.
-    let fi : SFits w32 c.in-Integer.i = record { sfits = c.in-Integer.known_told-1-own.given.0.1 } in
-    let fj : SFits w32 c.in-Integer-b.j = record { sfits = c.in-Integer-b.known_told-in-Integer-1-own.given.0.1 } in
-    at_most_both _ 0 x y _ hx.narrow hy.narrow _ _ (sym c.in-Integer.is ∙ hx.integer) (sym c.in-Integer-b.is ∙ hy.integer) c.judge.ensures.0
-    (rw (to_z-of_z w32 _ fi, to_z-of_z w32 _ fj) at c.judge.ensures.1)
+    let fi : SFits w32 c.in-Some.i = record { sfits = c.in-Some.known_told-1-own.given.0.1 } in
+    let fj : SFits w32 c.in-Some-b.j = record { sfits = c.in-Some-b.known_told-in-Some-1-own.given.0.1 } in
+    at_most_both _ 0 x y hx.narrow hy.narrow _ _ (sym c.in-Some.is ∙ hx.integer) (sym c.in-Some-b.is ∙ hy.integer) (rw (to_z-of_z w32 _ fi, to_z-of_z w32 _ fj))

@@ -1,6 +1,8 @@
+use mathlib.Core.Path.{◌≡◌}
+use Rattle.values_integers.specs.declared.integer.ArithmeticError.TheVariants.{Undefined, Outside}
+use native.Mathlib.Omega.{arith}
 use Prim.Native.Nat.{◌^◌}
 use lib.Signed.{mag}
-use native.Mathlib.Omega.{arith}
 use borrow.Author.Tests.{lt-ltb}
 use mir.Syntax.{w32}
 use mir.Val.{SFits}
@@ -10,17 +12,22 @@ use Rattle.evaluator_operations.proofs.ToldLaws.{stop_told}
 use Rattle.evaluator_operations.proofs.OperationLaws.{counted_kept}
 use Rattle.evaluator_operations.proofs.numbers.kept_integer.Goals as goal
 
-pub returns-in-Whole : goal.returns-in-Whole
+pub returns-in-Ok : goal.returns-in-Ok
 unfolding keep_integer
-returns-in-Whole c =
-    let f : SFits w32 c.in-Whole.i = record { sfits = c.in-Whole.known_told-1-own.given.0.1 } in
-    let e = rw (to_z-of_z w32 _ f) at c.found.ensures in
-    rw c.in-Whole.is (counted_kept _ _ _ _ e.0 (lt-ltb (mag c.in-Whole.i) (2 ^ 31) f.sfits) e.1)
+returns-in-Ok c =
+    let f : SFits w32 c.in-Ok.i = record { sfits = c.in-Ok.i-1-own.given } in
+    rw (c.in-Ok.is, to_z-of_z w32 _ f) (counted_kept _ _ (lt-ltb (mag c.in-Ok.i) (2 ^ 31) f.sfits))
 
-pub returns-in-Undefined : goal.returns-in-Undefined
+pub returns-in-Err-Undefined : goal.returns-in-Err-Undefined
 unfolding keep_integer
-returns-in-Undefined c = rw c.in-Undefined.is (stop_told c.no_operand.ensures (λ z. omega arith))
+returns-in-Err-Undefined c =
+    let a = c.in-Err-Undefined in
+    let e : a.field-0 ≡ Undefined = rw a.is at a.field-0-is in
+    rw (a.is, e) (stop_told c.refusal.ensures (λ z. omega arith))
 
-pub returns-in-Outside : goal.returns-in-Outside
+pub returns-in-Err-Outside : goal.returns-in-Err-Outside
 unfolding keep_integer
-returns-in-Outside c = rw c.in-Outside.is (stop_told c.no_operand-in-Outside.ensures (λ z. omega arith))
+returns-in-Err-Outside c =
+    let a = c.in-Err-Outside in
+    let e : a.field-0 ≡ Outside = rw a.is at a.field-0-is in
+    rw (a.is, e) (stop_told c.refusal-in-Err-Outside.ensures (λ z. omega arith))

@@ -3,7 +3,6 @@ use Rattle.values.specs.Held.{over}
 use Rattle.values.specs.declared.held.Held.{Held}
 use Rattle.values.proofs.Holding.{held_len}
 use mathlib.Core.Path.{refl, ap}
-use mathlib.Core.Bool.{true, false}
 use native.Mathlib.Omega.{arith}
 use Rattle.evaluator_scope.proofs.named.bounded.Goals as goal
 

@@ -5,7 +5,6 @@ use Rattle.evaluator_operations.specs.Worked.{Holds}
 use Rattle.evaluator_scope.specs.Named.{said}
 use Rattle.evaluator_scope.proofs.NamedLaws.{entry_few, name_plain, name_given}
 use mathlib.Core.Path.{sym, ap, subst, ◌∙◌}
-use mathlib.Core.Bool.{true, false}
 use native.Mathlib.Omega.{arith}
 use Rattle.evaluator_scope.proofs.named.held_name.Goals as goal
 

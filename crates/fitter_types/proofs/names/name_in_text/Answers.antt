@@ -1,31 +1,29 @@
-use mathlib.Core.Path.{refl, sym, ap, ◌∙◌}
-use Prim.Native.Nat.{◌-◌}
+use mathlib.Core.Path.{◌≡◌, sym, ◌∙◌}
+use Prim.Native.Nat.{◌+◌}
 use native.Mathlib.Omega.{arith}
 use lib.ListN.{length}
 use Rattle.layout.specs.Layout.{part}
-use Rattle.states.proofs.NameLaws.{text_words, text_line}
+use Rattle.states.proofs.NameLaws.{tail_inside, tail_past, tail_operand, text_line}
 use Rattle.fitter_types.proofs.NameWalk.{text_here, text_past, text_over}
 use Rattle.fitter_types.proofs.names.name_in_text.Goals as goal
 
-pub loop-i-init : goal.loop-i-init
-loop-i-init c =
-    let e = ap length c.part-e.ensures in
-    (omega arith, omega (arith, (text_words _ _ c.requires).0, e), e, refl)
-
 pub line_count-n-requires : goal.line_count-n-requires
-line_count-n-requires c = text_line c.args.doc.now c.args.t c.requires c.loop-i.i c.loop-i.invariant.0 (omega (arith, c.loop-i.invariant.2)) _ c.operand-v.ensures.0
-
-pub overflow_add-at : goal.overflow_add-at
-overflow_add-at c = omega (arith, c.line_count-n.ensures.1)
+line_count-n-requires c =
+    let u = c.loop-line.invariant.0 in
+    text_line c.args.doc.now c.args.t c.requires (2 + c.loop-line.line-index) (omega arith) (tail_inside _ _ _ _ u _ c.loop-line-test.true) _ (tail_operand _ _ _ _ u _)
 
 pub returns-then-at-n : goal.returns-then-at-n
-returns-then-at-n c = c.operand.ensures.0 ∙ text_here c.args.doc.now c.args.t c.requires c.loop-i.i c.loop-i.invariant.0 (omega (arith, c.loop-i.invariant.2)) c.operand-v.result c.operand-v.ensures.0 c.line_count-n.result c.line_count-n.ensures.0 c.loop-i.at (omega arith) ∙ sym c.loop-i.invariant.3
+returns-then-at-n c =
+    let u = c.loop-line.invariant.0 in
+    c.operand.ensures.0
+    ∙ text_here c.args.doc.now c.args.t c.requires (2 + c.loop-line.line-index) (omega arith) (tail_inside _ _ _ _ u _ c.loop-line-test.true) _ (tail_operand _ _ _ _ u _) c.line_count-n.result c.line_count-n.ensures.0 c.loop-line.at c.if-at-n.true
+    ∙ sym c.loop-line.invariant.1
 
-pub overflow_add-i : goal.overflow_add-i
-overflow_add-i c = omega (arith, c.loop-i.invariant.1, c.loop-i.invariant.2, (text_words _ _ c.requires).1)
-
-pub loop-i-preserved : goal.loop-i-preserved
-loop-i-preserved c = (omega arith, omega arith, c.loop-i.invariant.2, c.loop-i.invariant.3 ∙ text_past c.args.doc.now c.args.t c.requires c.loop-i.i c.loop-i.invariant.0 (omega (arith, c.loop-i.invariant.2)) c.operand-v.result c.operand-v.ensures.0 c.line_count-n.result c.line_count-n.ensures.0 c.loop-i.at (omega arith))
+pub loop-line-preserved : goal.loop-line-preserved
+loop-line-preserved c =
+    let u = c.loop-line.invariant.0 in
+    let s : 2 + (c.loop-line.line-index + 1) ≡ 2 + c.loop-line.line-index + 1 = omega arith in
+    (u, rw s (c.loop-line.invariant.1 ∙ text_past c.args.doc.now c.args.t c.requires (2 + c.loop-line.line-index) (omega arith) (tail_inside _ _ _ _ u _ c.loop-line-test.true) _ (tail_operand _ _ _ _ u _) c.line_count-n.result c.line_count-n.ensures.0 c.loop-line.at c.if-at-n.false))
 
 pub returns : goal.returns
-returns c = sym (c.loop-i.invariant.3 ∙ text_over c.args.doc.now c.args.t c.loop-i.i (length (part c.args.doc.now c.args.t)) c.loop-i.at (omega (arith, c.loop-i.invariant.2)))
+returns c = sym (c.loop-line.invariant.1 ∙ text_over c.args.doc.now c.args.t (2 + c.loop-line.line-index) (length (part c.args.doc.now c.args.t)) c.loop-line.at (tail_past _ _ _ _ c.loop-line.invariant.0 _ c.loop-line-test.false))

@@ -1,10 +1,6 @@
-use Prim.Native.Nat.{◌+◌, ◌-◌, ◌≤◌}
 use Rattle.printer_rules.proofs.LineLaws.{lines_before}
 use Rattle.printer.specs.Buffer.{Put}
 use Rattle.printer.proofs.lines.put_entries.Given as goal
 
 abbrev pub invariant-loop-k : goal.invariant-loop-k
-invariant-loop-k l = (1 ≤ l.k) × (l.k ≤ l.n + 1) × (Put (lines_before l.dict l.k) l.initial.out l.at l.out l.end)
-
-abbrev pub decreases-loop-k : goal.decreases-loop-k
-decreases-loop-k l = l.n + 1 - l.k
+invariant-loop-k l = Put (lines_before l.dict l.k) l.initial.out l.at l.out l.end

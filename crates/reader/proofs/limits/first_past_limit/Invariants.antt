@@ -7,8 +7,5 @@ use mathlib.Core.Path.{◌≡◌}
 use Rattle.reader.proofs.limits.first_past_limit.Given as goal
 
 abbrev pub invariant-loop-k : goal.invariant-loop-k
-invariant-loop-k l = (1 ≤ l.k) × (l.k ≤ l.n + 1) × (lowest l.doc (limit_number l.doc) ≡ scan (limit_number l.doc) l.k (l.n + 1 - l.k)) × Counted l.doc (l.k - 1) l.below l.declared
+invariant-loop-k l = (lowest l.doc (limit_number l.doc) ≡ scan (limit_number l.doc) l.k (l.n + 1 - l.k)) × Counted l.doc (l.k - 1) l.below l.declared
     × (l.globals ≡ globals_up_to l.doc (l.k - 1)) × (l.globals ≤ 64)
-
-abbrev pub decreases-loop-k : goal.decreases-loop-k
-decreases-loop-k l = l.n + 1 - l.k

@@ -1,20 +1,6 @@
 use Rattle.reader.proofs.CountLaws.{deep_eq, ancestors_short, crowded_eq, below_on}
-use native.Mathlib.Omega.{arith}
-use mathlib.Core.Bool.{false, true, false≢true}
 use mathlib.Core.Path.{sym, ◌∙◌}
 use Rattle.reader.proofs.limits.limit_at.Goals as goal
-
-pub returns-then-has_above : goal.returns-then-has_above
-returns-then-has_above c = (rw (deep_eq c.args.doc.now c.args.k, ← c.has_above.ensures, c.if-has_above.true), λ z. absurd (false≢true (sym z)))
-
-pub is_nested-requires : goal.is_nested-requires
-is_nested-requires c = (c.requires.0.parents, omega (arith, c.requires.0.parents.few, c.requires.2), sym c.has_above.ensures ∙ c.if-has_above.false)
-
-pub returns-then-is_nested : goal.returns-then-is_nested
-returns-then-is_nested c = (rw (deep_eq c.args.doc.now c.args.k, ← c.has_above.ensures, c.if-has_above.false, ← c.is_nested.ensures, c.if-is_nested.true), λ z. absurd (false≢true (sym z)))
-
-pub returns-then-widen : goal.returns-then-widen
-returns-then-widen c = (rw (deep_eq c.args.doc.now c.args.k, ← c.has_above.ensures, c.if-has_above.false, ← c.is_nested.ensures, c.if-is_nested.false, ← c.widen.ensures.0, c.if-widen.true), λ z. absurd (false≢true (sym z)))
 
 pub returns : goal.returns
 returns c =

@@ -4,11 +4,6 @@ use lib.ListN.{length}
 use Rattle.states.proofs.NameLaws.{given_words, given_count, axiom_names, other_names}
 use Rattle.states.proofs.names.paragraph_count.Goals as goal
 
-pub overflow_sub-result : goal.overflow_sub-result
-overflow_sub-result c =
-    let q = sym c.kind_at-q.ensures.0 ∙ c.if-q-eq-GIVEN.true in
-    omega (arith, (given_words _ _ c.requires q).0, ap length c.part.ensures)
-
 pub returns-then-q-eq-GIVEN : goal.returns-then-q-eq-GIVEN
 returns-then-q-eq-GIVEN c =
     let q = sym c.kind_at-q.ensures.0 ∙ c.if-q-eq-GIVEN.true in

@@ -10,16 +10,6 @@ put_given-requires c =
     let q = sym c.kind_at-q.ensures.0 ∙ c.if-q-eq-GIVEN.true in
     (c.requires.1, omega (arith, (given_words _ _ c.requires.0 q).1, ap length c.part-w.ensures))
 
-pub overflow_sub-result : goal.overflow_sub-result
-overflow_sub-result c =
-    let q = sym c.kind_at-q.ensures.0 ∙ c.if-q-eq-GIVEN.true in
-    omega (arith, (given_words _ _ c.requires.0 q).0, ap length c.part-w.ensures)
-
-pub overflow_add-result : goal.overflow_add-result
-overflow_add-result c =
-    let q = sym c.kind_at-q.ensures.0 ∙ c.if-q-eq-GIVEN.true in
-    omega (arith, c.requires.1, (given_words _ _ c.requires.0 q).1, ap length c.part-w.ensures)
-
 pub returns-then-q-eq-GIVEN : goal.returns-then-q-eq-GIVEN
 returns-then-q-eq-GIVEN c =
     let q = sym c.kind_at-q.ensures.0 ∙ c.if-q-eq-GIVEN.true in
@@ -28,9 +18,6 @@ returns-then-q-eq-GIVEN c =
 
 pub text_count-requires : goal.text_count-requires
 text_count-requires c = (axiom_names _ _ c.requires.0 (sym c.kind_at-q.ensures.0 ∙ c.if-q-eq-AXIOM.true) _ c.operand.ensures.0).0
-
-pub overflow_add-result-then-q-eq-AXIOM : goal.overflow_add-result-then-q-eq-AXIOM
-overflow_add-result-then-q-eq-AXIOM c = omega (arith, c.requires.1, c.text_count.ensures.1)
 
 pub returns-then-q-eq-AXIOM : goal.returns-then-q-eq-AXIOM
 returns-then-q-eq-AXIOM c =

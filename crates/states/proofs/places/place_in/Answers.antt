@@ -1,24 +1,25 @@
-use mathlib.Core.Path.{refl, sym, ◌∙◌}
+use mathlib.Core.Path.{◌≡◌, sym, ap, ◌∙◌}
 use mathlib.Core.Bool.{true}
-use Prim.Native.Nat.{◌-◌}
+use mathlib.Core.List.{List}
+use Prim.Native.Nat.{ℕ, ◌+◌}
 use native.Mathlib.Omega.{arith}
+use Rattle.states_rules.specs.Names.{names_as}
+use Rattle.states_rules.specs.States.{entry_from}
 use Rattle.states.proofs.PlaceLaws.{entry_here, entry_go, entry_end}
 use Rattle.states.proofs.places.place_in.Goals as goal
 
-pub loop-i-init : goal.loop-i-init
-loop-i-init c = (omega arith, omega arith, refl)
-
-pub returns-then-word-name : goal.returns-then-word-name
-returns-then-word-name c = entry_here c.args.w.now c.args.name c.loop-i.i c.loop-i.at (omega arith) (sym c.word.ensures.0 ∙ c.if-word-name.true) ∙ sym c.loop-i.invariant.2
-
-pub overflow_add-i : goal.overflow_add-i
-overflow_add-i c = omega (arith, c.requires.1)
-
-pub overflow_add-at : goal.overflow_add-at
-overflow_add-at c = omega (arith, c.requires.0, c.requires.1, c.loop-i.invariant.1)
+pub returns-then-x-name : goal.returns-then-x-name
+returns-then-x-name c =
+    entry_here c.from-names.result.now c.args.name c.loop-i.i (c.args.k + c.loop-i.i) c.loop-i-test.true c.if-x-name.true
+    ∙ sym c.loop-i.invariant
+    ∙ ap (λ (u : List ℕ). entry_from (names_as true u) c.args.name c.args.k) c.from-names.ensures
 
 pub loop-i-preserved : goal.loop-i-preserved
-loop-i-preserved c = (omega arith, omega (arith, c.loop-i.invariant.1), c.loop-i.invariant.2 ∙ entry_go c.args.w.now c.args.name c.loop-i.i c.loop-i.at (omega arith) (λ x. c.if-word-name.false (c.word.ensures.0 ∙ x)))
+loop-i-preserved c =
+    let e : c.args.k + (c.loop-i.i + 1) ≡ c.args.k + c.loop-i.i + 1 = omega arith in
+    rw e (c.loop-i.invariant ∙ entry_go c.from-names.result.now c.args.name c.loop-i.i (c.args.k + c.loop-i.i) c.loop-i-test.true c.if-x-name.false)
 
 pub returns : goal.returns
-returns c = sym (c.loop-i.invariant.2 ∙ entry_end c.args.w.now c.args.name c.loop-i.i c.loop-i.at (omega arith))
+returns c =
+    sym (c.loop-i.invariant ∙ entry_end c.from-names.result.now c.args.name c.loop-i.i (c.args.k + c.loop-i.i) c.loop-i-test.false)
+    ∙ ap (λ (u : List ℕ). entry_from (names_as true u) c.args.name c.args.k) c.from-names.ensures

@@ -1,61 +1,55 @@
-use mathlib.Core.Path.{sym, ap, ◌∙◌}
+use mathlib.Core.Path.{◌≡◌, sym, ap, ◌∙◌}
 use mathlib.Core.List.{List}
-use Prim.Native.Nat.{ℕ, ◌-◌}
+use Prim.Native.Nat.{◌+◌}
 use native.Mathlib.Omega.{arith}
-use lib.ListN.{length}
+use lib.ListN.{length, drop}
 use Rattle.layout.specs.Layout.{count, part}
-use Rattle.reader_rules.specs.Nodes.{operand_at}
 use Rattle.states_rules.specs.States.{entry_from}
 use Rattle.states_rules.specs.Names.{Name}
 use Rattle.states.proofs.PlaceLaws.{document_hit, document_miss, document_none}
-use Rattle.states.proofs.NameLaws.{document_words_lem, document_names_lem, document_paragraph}
+use Rattle.states.proofs.NameLaws.{tail_inside, tail_past, tail_operand, document_words_lem, document_names_lem, document_paragraph}
 use Rattle.states.proofs.places.place_of.Goals as goal
 
-pub loop-i-init : goal.loop-i-init
-loop-i-init c =
+pub loop-paragraph-init : goal.loop-paragraph-init
+loop-paragraph-init c =
     let d = c.args.doc.now in
-    let w = c.word-d.ensures.0 in
-    let e = ap length c.part-e.ensures ∙ ap (λ (x : ℕ). length (part d x)) w in
-    (omega arith, omega (arith, e, (document_words_lem d c.requires).0), e, w, omega arith, omega arith, ap (λ (ns : List Name). entry_from ns c.args.name 1) (document_names_lem d c.requires))
+    let u = c.from-paragraphs.ensures ∙ ap (drop 1) (c.part.ensures ∙ ap (part d) c.word.ensures.0) in
+    (u, omega arith, omega arith, ap (λ (ns : List Name). entry_from ns c.args.name 1) (document_names_lem d c.requires))
 
 pub place_in_paragraph-r-requires : goal.place_in_paragraph-r-requires
 place_in_paragraph-r-requires c =
     let d = c.args.doc.now in
-    let x = c.operand-p.ensures.0 ∙ ap (λ (k : ℕ). operand_at d k c.loop-i.i) c.loop-i.invariant.3 in
-    (document_paragraph d c.requires c.loop-i.i c.loop-i.invariant.0 (omega (arith, c.loop-i.invariant.2)) _ x, c.loop-i.invariant.4, omega (arith, c.loop-i.invariant.1, c.loop-i.invariant.2, c.loop-i.invariant.5, (document_words_lem d c.requires).1))
+    let u = c.loop-paragraph.invariant.0 in
+    let q = tail_inside c.args.doc.now (count c.args.doc.now) 1 c.from-paragraphs.result.now u _ c.loop-paragraph-test.true in
+    (document_paragraph d c.requires (1 + c.loop-paragraph.paragraph-index) (omega arith) q _ (tail_operand _ _ _ _ u _), c.loop-paragraph.invariant.1, omega (arith, q, c.loop-paragraph.invariant.2, (document_words_lem d c.requires).1))
 
 pub returns-then-r-ne0 : goal.returns-then-r-ne0
 returns-then-r-ne0 c =
-    let d = c.args.doc.now in
-    let x = c.operand-p.ensures.0 ∙ ap (λ (k : ℕ). operand_at d k c.loop-i.i) c.loop-i.invariant.3 in
-    document_hit d c.requires c.loop-i.i c.loop-i.invariant.0 (omega (arith, c.loop-i.invariant.2)) c.operand-p.result x c.args.name c.loop-i.at c.loop-i.invariant.4 c.place_in_paragraph-r.result c.place_in_paragraph-r.ensures c.if-r-ne0.true ∙ sym c.loop-i.invariant.6
+    let u = c.loop-paragraph.invariant.0 in
+    document_hit c.args.doc.now c.requires (1 + c.loop-paragraph.paragraph-index) (omega arith) (tail_inside _ _ _ _ u _ c.loop-paragraph-test.true) _ (tail_operand _ _ _ _ u _) c.args.name c.loop-paragraph.at c.loop-paragraph.invariant.1 c.place_in_paragraph-r.result c.place_in_paragraph-r.ensures c.if-r-ne0.true ∙ sym c.loop-paragraph.invariant.3
 
 pub paragraph_count-at-requires : goal.paragraph_count-at-requires
 paragraph_count-at-requires c =
-    let d = c.args.doc.now in
-    let x = c.operand-p.ensures.0 ∙ ap (λ (k : ℕ). operand_at d k c.loop-i.i) c.loop-i.invariant.3 in
-    document_paragraph d c.requires c.loop-i.i c.loop-i.invariant.0 (omega (arith, c.loop-i.invariant.2)) _ x
+    let u = c.loop-paragraph.invariant.0 in
+    document_paragraph c.args.doc.now c.requires (1 + c.loop-paragraph.paragraph-index) (omega arith) (tail_inside _ _ _ _ u _ c.loop-paragraph-test.true) _ (tail_operand _ _ _ _ u _)
 
 pub overflow_add-at : goal.overflow_add-at
-overflow_add-at c = omega (arith, c.loop-i.invariant.1, c.loop-i.invariant.2, c.loop-i.invariant.5, (document_words_lem c.args.doc.now c.requires).1, c.paragraph_count-at.ensures.1)
+overflow_add-at c =
+    let q = tail_inside c.args.doc.now (count c.args.doc.now) 1 c.from-paragraphs.result.now c.loop-paragraph.invariant.0 _ c.loop-paragraph-test.true in
+    omega (arith, q, c.loop-paragraph.invariant.2, (document_words_lem c.args.doc.now c.requires).1, c.paragraph_count-at.ensures.1)
 
-pub overflow_add-i : goal.overflow_add-i
-overflow_add-i c = omega (arith, c.loop-i.invariant.1, c.loop-i.invariant.2, (document_words_lem c.args.doc.now c.requires).1)
-
-pub loop-i-preserved : goal.loop-i-preserved
-loop-i-preserved c =
+pub loop-paragraph-preserved : goal.loop-paragraph-preserved
+loop-paragraph-preserved c =
     let d = c.args.doc.now in
-    let x = c.operand-p.ensures.0 ∙ ap (λ (k : ℕ). operand_at d k c.loop-i.i) c.loop-i.invariant.3 in (
-      omega arith,
-      omega arith,
-      c.loop-i.invariant.2,
-      c.loop-i.invariant.3,
-      omega (arith, c.loop-i.invariant.4),
-      omega (arith, c.loop-i.invariant.5, c.paragraph_count-at.ensures.1),
-      c.loop-i.invariant.6 ∙ document_miss d c.requires c.loop-i.i c.loop-i.invariant.0 (omega (arith, c.loop-i.invariant.2)) c.operand-p.result x c.args.name c.loop-i.at c.loop-i.invariant.4 (sym c.place_in_paragraph-r.ensures ∙ c.if-r-ne0.false) c.paragraph_count-at.result c.paragraph_count-at.ensures.0,
+    let u = c.loop-paragraph.invariant.0 in
+    let s : 1 + (c.loop-paragraph.paragraph-index + 1) ≡ 1 + c.loop-paragraph.paragraph-index + 1 = omega arith in (
+      u,
+      omega (arith, c.loop-paragraph.invariant.1),
+      omega (arith, c.loop-paragraph.invariant.2, c.paragraph_count-at.ensures.1),
+      rw s (c.loop-paragraph.invariant.3 ∙ document_miss d c.requires (1 + c.loop-paragraph.paragraph-index) (omega arith) (tail_inside _ _ _ _ u _ c.loop-paragraph-test.true) _ (tail_operand _ _ _ _ u _) c.args.name c.loop-paragraph.at c.loop-paragraph.invariant.1 (sym c.place_in_paragraph-r.ensures ∙ c.if-r-ne0.false) c.paragraph_count-at.result c.paragraph_count-at.ensures.0),
     )
 
 pub returns : goal.returns
 returns c =
     let d = c.args.doc.now in
-    sym (c.loop-i.invariant.6 ∙ document_none d c.requires c.loop-i.i (length (part d (count d))) c.args.name c.loop-i.at (omega (arith, c.loop-i.invariant.2)))
+    sym (c.loop-paragraph.invariant.3 ∙ document_none d c.requires (1 + c.loop-paragraph.paragraph-index) (length (part d (count d))) c.args.name c.loop-paragraph.at (tail_past _ _ _ _ c.loop-paragraph.invariant.0 _ c.loop-paragraph-test.false))

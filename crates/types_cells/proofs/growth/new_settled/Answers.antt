@@ -3,12 +3,6 @@ use Rattle.types_cells.proofs.Entering.{entered_as}
 use Rattle.types_cells.proofs.Reading.{place_low, heap_length}
 use Rattle.types_cells.proofs.growth.new_settled.Goals as goal
 
-pub new_unknown-requires : goal.new_unknown-requires
-new_unknown-requires c = c.requires.making
-
-pub overflow_add-n : goal.overflow_add-n
-overflow_add-n c = let f = c.requires.making.few in omega arith
-
 pub overflow_add-p : goal.overflow_add-p
 overflow_add-p c =
     let P = c.requires in

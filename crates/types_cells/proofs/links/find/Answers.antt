@@ -1,12 +1,9 @@
-use mathlib.Core.Path.{◌≡◌, refl, sym, ◌∙◌}
+use mathlib.Core.Path.{◌≡◌, sym, ◌∙◌}
 use Prim.Native.Nat.{suc, ◌-◌}
 use native.Mathlib.Omega.{arith}
 use Rattle.types_cells.specs.Store.{link_at}
 use Rattle.types_cells.proofs.LinkLaws.{far_less, hop_below, hop_rep, stop_rep}
 use Rattle.types_cells.proofs.links.find.Goals as goal
-
-pub loop-l-init : goal.loop-l-init
-loop-l-init c = (c.link-l.ensures.0, c.link-l.ensures.1, λ n L h m. (m, refl))
 
 pub loop-l-smaller : goal.loop-l-smaller
 loop-l-smaller c =

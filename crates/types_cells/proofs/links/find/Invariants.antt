@@ -1,5 +1,5 @@
 use mathlib.Core.Path.{◌≡◌}
-use Prim.Native.Nat.{ℕ, ◌-◌, ◌<◌, ◌+◌}
+use Prim.Native.Nat.{ℕ, ◌<◌, ◌+◌}
 use lib.Dec.{eqb}
 use Rattle.types_cells.specs.Layout.{max_cells, settled_from}
 use Rattle.types_cells.specs.Store.{link_at, Held}

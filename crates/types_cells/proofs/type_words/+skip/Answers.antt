@@ -1,12 +1,8 @@
 use mathlib.Core.Path.{sym, ap}
 use native.Mathlib.Omega.{arith}
-use Prim.Native.Nat.{◌+◌, ◌-◌}
-use Rattle.types_cells.specs.Settled.{lead_words}
+use Prim.Native.Nat.{◌+◌}
 use Rattle.types_cells.proofs.Reading.{heap_length, place_low, scan_start, scan_step, scan_on, scan_end}
 use Rattle.types_cells.proofs.type_words.+skip.Goals as goal
-
-pub type_word-t-requires : goal.type_word-t-requires
-type_word-t-requires t c = c.requires.areas.size
 
 pub parts_of-n-requires : goal.parts_of-n-requires
 parts_of-n-requires t c =
@@ -55,15 +51,6 @@ skip-at-requires t c =
     let m = c.decreases in
     let o = c.loop-j.invariant.0 in
     (omega arith, record { areas = P.areas; readable = record { type = S.part; reads = S.reads } })
-
-pub overflow_add-j : goal.overflow_add-j
-overflow_add-j t c =
-    let f = c.parts_of-n.ensures.1 in
-    let q = c.loop-j-test.true in
-    omega arith
-
-pub loop-j-smaller : goal.loop-j-smaller
-loop-j-smaller t c = let q = c.loop-j-test.true in omega arith
 
 pub loop-j-preserved : goal.loop-j-preserved
 loop-j-preserved t c =

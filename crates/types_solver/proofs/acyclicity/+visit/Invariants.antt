@@ -1,4 +1,4 @@
-use Prim.Native.Nat.{◌+◌, ◌*◌, ◌-◌, ◌≤◌}
+use Prim.Native.Nat.{◌+◌, ◌*◌}
 use Rattle.types_solver.specs.Sizes.{bare}
 use Rattle.types_cells.proofs.LinkLaws.{far}
 use Rattle.types_solver.proofs.Visiting.{Parts}
@@ -9,7 +9,4 @@ abbrev pub decreases-visit : goal.decreases-visit
 decreases-visit l = (2 + max_cells) * bare l.a.now max_cells + far l.a.now (1 + max_cells) l.i
 
 abbrev pub invariant-loop-j : goal.invariant-loop-j
-invariant-loop-j l = (l.j ≤ l.k) × Parts l.initial.a l.a l.i l.k l.j l.sum
-
-abbrev pub decreases-loop-j : goal.decreases-loop-j
-decreases-loop-j l = l.k - l.j
+invariant-loop-j l = Parts l.initial.a l.a l.i l.k l.j l.sum

@@ -5,9 +5,6 @@ use native.Mathlib.Omega.{arith}
 use Rattle.types_solver.proofs.Looking.{looking_root, looking_few, looked_root}
 use Rattle.types_solver.proofs.components.component.Goals as goal
 
-pub find-r-requires : goal.find-r-requires
-find-r-requires c = let K = c.requires in record { n = K.n; L = K.L; held = K.held; made = K.made }
-
 pub field-requires : goal.field-requires
 field-requires c = let l = looking_few _ _ _ (looking_root _ _ _ _ c.requires c.find-r.ensures) in (omega arith, omega arith)
 

@@ -4,11 +4,8 @@ use Prim.Native.Nat.{◌-◌}
 use Rattle.types_cells.specs.Layout.{settled_from}
 use Rattle.types_cells.specs.Settled.{word_at, heap, Readable, Component}
 use Rattle.types_cells.proofs.Reading.{place_low, heap_length}
-use Rattle.types_solver.proofs.Looking.{open_none, settled_none, settled_some, looking_few}
+use Rattle.types_solver.proofs.Looking.{open_none, settled_none, settled_some}
 use Rattle.types_solver.proofs.components.unknown_component.Goals as goal
-
-pub overflow_add-r : goal.overflow_add-r
-overflow_add-r c = let l = looking_few _ _ _ c.requires.0 in omega arith
 
 pub returns-then-q-lt-SETTLED : goal.returns-then-q-lt-SETTLED
 unfolding word_at

@@ -1,6 +1,6 @@
 use mathlib.Core.Path.{ap}
 use native.Mathlib.Omega.{arith}
-use Prim.Native.Nat.{◌+◌, ◌-◌, ◌<◌}
+use Prim.Native.Nat.{◌+◌, ◌<◌}
 use Rattle.types_solver.proofs.Instancing.{enter_place, first_ask, form_ask, former_done, in_row, later_place, parts_ask, parts_done, parts_none, putting, rest_ask, skip_ask, suc_pred}
 use Rattle.types_solver.proofs.entering.+enter_enter_parts.Goals as goal
 

@@ -1,7 +1,6 @@
-use mathlib.Core.List.{[]}
 use native.Mathlib.Omega.{arith}
 use Prim.Native.Nat.{◌+◌}
-use Rattle.types_solver.proofs.Instancing.{arg_few, formed, forming}
+use Rattle.types_solver.proofs.Instancing.{arg_few, formed}
 use Rattle.types_solver.proofs.entering.enter_former.Goals as goal
 
 pub overflow_cast-arg : goal.overflow_cast-arg
@@ -12,9 +11,6 @@ overflow_cast-arg c =
     let s = c.args in
     let z = arg_few s.t s.v (s.top + s.m) 4294967296 (omega arith) (omega arith) in
     let e = c.argument-arg.ensures in omega arith
-
-pub new_cell-requires : goal.new_cell-requires
-new_cell-requires c = forming _ [] _ _ _ _ _ _ c.requires c.argument-arg.ensures
 
 pub returns-then-t-eq-BINDING : goal.returns-then-t-eq-BINDING
 returns-then-t-eq-BINDING c = formed _ _ _ _ _ _ _ _ c.requires c.argument-arg.ensures _ _ (omega arith) (omega arith) (omega arith) (λ e. omega arith) c.new_cell.ensures

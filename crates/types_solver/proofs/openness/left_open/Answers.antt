@@ -1,15 +1,8 @@
 use native.Mathlib.Omega.{arith}
-use Prim.Native.Nat.{◌-◌}
 use Rattle.types_cells.specs.Calls.{Known}
 use Rattle.types_cells.proofs.LinkLaws.{known_root, few_cell}
-use Rattle.types_solver.proofs.Opening.{left_yes, left_no, scan_next}
+use Rattle.types_solver.proofs.Opening.{left_yes, left_no}
 use Rattle.types_solver.proofs.openness.left_open.Goals as goal
-
-pub loop-i-init : goal.loop-i-init
-loop-i-init c = λ j l. absurd (omega arith)
-
-pub find-r-requires : goal.find-r-requires
-find-r-requires c = record { n = _; L = c.requires.L; held = c.requires.held; made = c.loop-i-test.true }
 
 pub is_open-requires : goal.is_open-requires
 is_open-requires c =
@@ -18,15 +11,6 @@ is_open-requires c =
 
 pub returns-then-is_open : goal.returns-then-is_open
 returns-then-is_open c = let q = c.is_open.ensures.holds c.if-is_open.true in left_yes _ _ _ _ c.loop-i-test.true c.find-r.ensures q.0 q.1
-
-pub overflow_add-i : goal.overflow_add-i
-overflow_add-i c = let l = c.loop-i-test.true in let f = c.requires.held.few in omega arith
-
-pub loop-i-smaller : goal.loop-i-smaller
-loop-i-smaller c = let l = c.loop-i-test.true in omega arith
-
-pub loop-i-preserved : goal.loop-i-preserved
-loop-i-preserved c = scan_next _ _ _ _ c.loop-i-test.true c.find-r.ensures (c.is_open.ensures.fails c.if-is_open.false) c.loop-i.invariant
 
 pub returns : goal.returns
 returns c = let l = c.loop-i-test.false in left_no _ _ (λ i m. c.loop-i.invariant i (omega arith))

@@ -2,7 +2,7 @@ use mathlib.Core.Path.{sym, ◌∙◌}
 use mathlib.Core.Logic.{⊎_elim}
 use native.Mathlib.Nat.{eq-zero-or-pos}
 use native.Mathlib.Omega.{arith}
-use Prim.Native.Nat.{◌+◌, ◌-◌}
+use Prim.Native.Nat.{◌+◌}
 use Rattle.types_cells.specs.Store.{frozen, tag_at}
 use Rattle.types_solver.specs.Sizes.{mark_at}
 use Rattle.types_solver.proofs.Marking.{cap_le}
@@ -13,18 +13,12 @@ use Rattle.types_solver.proofs.Summing.{add_step, add_end}
 use Prim.Native.Nat.{◌<◌}
 use Rattle.types_solver.proofs.sizes.+cell_size.Goals as goal
 
-pub overflow_add-i : goal.overflow_add-i
-overflow_add-i t c = let P = c.requires in let f = P.marked.held.few in let l = P.made in omega arith
-
 pub returns-then-word-gt-SIZE : goal.returns-then-word-gt-SIZE
 unfolding mark_at
 returns-then-word-gt-SIZE t c =
     let e = c.word.ensures.0 in
     let q = c.if-word-gt-SIZE.true in
     measured_high _ _ _ (omega arith)
-
-pub find-r-requires : goal.find-r-requires
-find-r-requires t c = let P = c.requires in record { n = P.n; L = P.L; held = P.marked.held; made = P.made }
 
 pub field-requires : goal.field-requires
 field-requires t c = let P = c.requires in let l = r_few _ _ _ c.find-r.ensures _ _ P.marked P.made in (omega arith, omega arith)
@@ -41,7 +35,7 @@ field-k-requires t c = let P = c.requires in let l = r_few _ _ _ c.find-r.ensure
 pub loop-j-init : goal.loop-j-init
 loop-j-init t c =
     let p : 0 < tag_at (frozen c.args.a.now) c.find-r.result = ⊎_elim (λ z. absurd (c.if-field-eq-UNKNOWN.false (c.field.ensures.0 ∙ z))) (λ p. p) (eq-zero-or-pos _) in
-    (omega arith, omega arith, λ n L σ M E l. adding_start _ _ _ _ _ c.find-r.ensures c.field-k.ensures.0 p n L σ M l)
+    (omega arith, λ n L σ M E l. adding_start _ _ _ _ _ c.find-r.ensures c.field-k.ensures.0 p n L σ M l)
 
 pub part-requires : goal.part-requires
 part-requires t c =
@@ -62,15 +56,6 @@ cell_size-requires t c =
     let m = c.decreases in
     (omega (arith, b.1), record { n = P.n; L = P.L; marked = P.marked; pinned = P.pinned; made = b.0; few = P.few })
 
-pub overflow_add-sum : goal.overflow_add-sum
-overflow_add-sum t c = let a = c.cell_size.ensures.few in let b = c.loop-j.invariant.1 in omega arith
-
-pub overflow_add-j : goal.overflow_add-j
-overflow_add-j t c = let t = c.loop-j-test.true in let f = c.field-k.ensures.1 in omega arith
-
-pub loop-j-smaller : goal.loop-j-smaller
-loop-j-smaller t c = let t = c.loop-j-test.true in omega arith
-
 pub loop-j-preserved : goal.loop-j-preserved
 unfolding mark_at
 loop-j-preserved t c =
@@ -82,12 +67,11 @@ loop-j-preserved t c =
     let k = c.capped-sum.ensures in
     let f = cap_le (c.loop-j.sum + c.cell_size.result) in (
       omega arith,
-      omega arith,
       λ n L σ M E l.
           let b = r_part _ _ _ c.find-r.ensures n L M.marked l p (omega arith) _ c.field-k.ensures.0 c.loop-j.j t c.part.result c.part.ensures.0 in
           add_step σ _ _ _ _ _ _ _ _ _ (let z = (r_cell _ _ _ c.find-r.ensures n L M.marked l).room in let y = c.field-k.ensures.0 in omega arith) t c.part.ensures.0 (c.cell_size.ensures.is n L σ M E b.0) c.capped-sum.ensures
-          (c.loop-j.invariant.2 n L σ M E l),
+          (c.loop-j.invariant.1 n L σ M E l),
     )
 
 pub returns : goal.returns
-returns t c = record { is = λ n L σ M E l. add_end σ _ _ _ _ _ _ c.loop-j-test.false c.loop-j.invariant.1 (c.loop-j.invariant.2 n L σ M E l); few = c.loop-j.invariant.1 }
+returns t c = record { is = λ n L σ M E l. add_end σ _ _ _ _ _ _ c.loop-j-test.false c.loop-j.invariant.0 (c.loop-j.invariant.1 n L σ M E l); few = c.loop-j.invariant.0 }

@@ -1,16 +1,11 @@
 use mathlib.Core.Path.{ap, ◌∙◌}
 use native.Mathlib.Omega.{arith}
-use Prim.Native.Nat.{◌+◌, ◌-◌}
-use Rattle.types_rules.specs.Types.{size}
-use Rattle.types_cells.specs.Settled.{lead_words}
+use Prim.Native.Nat.{◌+◌}
 use Rattle.types_solver.specs.Sizes.{cap}
 use Rattle.types_cells.proofs.Reading.{heap_length, place_low}
 use Rattle.types_solver.proofs.Marking.{cap_le}
 use Rattle.types_solver.proofs.Summing.{sum_start, sum_step, sum_end}
 use Rattle.types_solver.proofs.sizes.+type_size.Goals as goal
-
-pub type_word-t-requires : goal.type_word-t-requires
-type_word-t-requires t c = c.requires.areas.size
 
 pub parts_of-n-requires : goal.parts_of-n-requires
 parts_of-n-requires t c =
@@ -54,23 +49,11 @@ type_size-requires t c =
     let o = c.loop-j.invariant.0 in
     (omega arith, record { areas = P.areas; readable = record { type = S.part; reads = S.reads } })
 
-pub overflow_add-sum : goal.overflow_add-sum
-overflow_add-sum t c = let a = c.type_size.ensures.few in let b = c.loop-j.invariant.1 in omega arith
-
 pub skip-at-requires : goal.skip-at-requires
 skip-at-requires t c =
     let P = c.requires in
     let S = sum_step _ _ _ _ _ _ _ (c.loop-j.invariant.2 P.readable.type P.readable.reads) c.loop-j-test.true in
     record { areas = P.areas; readable = record { type = S.part; reads = S.reads } }
-
-pub overflow_add-j : goal.overflow_add-j
-overflow_add-j t c =
-    let f = c.parts_of-n.ensures.1 in
-    let q = c.loop-j-test.true in
-    omega arith
-
-pub loop-j-smaller : goal.loop-j-smaller
-loop-j-smaller t c = let q = c.loop-j-test.true in omega arith
 
 pub loop-j-preserved : goal.loop-j-preserved
 loop-j-preserved t c =

@@ -11,6 +11,3 @@ decreases-type_size l = length (heap l.a.now l.d.now) - l.p
 
 abbrev pub invariant-loop-j : goal.invariant-loop-j
 invariant-loop-j l = (l.p < l.at) × (l.sum ≤ 33) × ((g : Ty) → Reads (heap l.a l.d) l.p g → Summing (heap l.a l.d) l.w l.at l.n l.j l.sum (size g))
-
-abbrev pub decreases-loop-j : goal.decreases-loop-j
-decreases-loop-j l = l.n - l.j

@@ -1,5 +1,4 @@
 use mathlib.Core.Path.{sym}
-use Prim.Native.Nat.{◌-◌}
 use Rattle.types_solver.proofs.Marking.{cap_low, cap_high}
 use Rattle.types_solver.proofs.sizes.capped.Goals as goal
 

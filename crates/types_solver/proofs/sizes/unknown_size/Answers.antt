@@ -4,11 +4,7 @@ use Prim.Native.Nat.{◌-◌}
 use Rattle.types_cells.specs.Layout.{settled_from}
 use Rattle.types_cells.specs.Settled.{word_at, heap, Readable}
 use Rattle.types_solver.specs.Sizes.{TypeSize}
-use Rattle.types_solver.proofs.Looking.{looking_few}
 use Rattle.types_solver.proofs.sizes.unknown_size.Goals as goal
-
-pub overflow_add-r : goal.overflow_add-r
-overflow_add-r c = let l = looking_few _ _ _ c.requires in omega arith
 
 pub returns-then-q-lt-SETTLED : goal.returns-then-q-lt-SETTLED
 unfolding word_at

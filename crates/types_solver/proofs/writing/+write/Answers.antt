@@ -1,7 +1,7 @@
-use mathlib.Core.Path.{◌≡◌, refl, sym, ap, ap₂, subst, ◌∙◌}
+use mathlib.Core.Path.{sym, ap, ap₂, subst, ◌∙◌}
 use mathlib.Core.Logic.{⊎_elim}
 use native.Mathlib.Nat.{eq-zero-or-pos}
-use Prim.Native.Nat.{◌+◌, ◌-◌}
+use Prim.Native.Nat.{◌-◌}
 use native.Mathlib.Omega.{arith}
 use lib.ListN.{length}
 use lib.Seq.{sets}
@@ -14,9 +14,6 @@ use Rattle.types_solver.specs.Written.{lead_at, rest, Wrote}
 use Rattle.types_solver.proofs.Writer.{split_length, step_area, step_end, rest_end, r_few, r_cell, r_part, m_words, m_length, m_settled, m_readable, r_settled}
 use Prim.Native.Nat.{◌<◌}
 use Rattle.types_solver.proofs.writing.+write.Goals as goal
-
-pub find-r-requires : goal.find-r-requires
-find-r-requires t c = let P = c.requires in record { n = P.n; L = P.L; held = P.model.marked.held; made = P.made }
 
 pub field-requires : goal.field-requires
 field-requires t c = let P = c.requires in let l = r_few _ _ _ c.find-r.ensures _ _ P.model.marked P.made in (omega arith, omega arith)
@@ -73,20 +70,6 @@ put_lead-m-requires t c =
       room = omega arith;
     }
 
-pub loop-j-init : goal.loop-j-init
-loop-j-init t c =
-    let k = c.field-k.result in
-    let e : k ≡ k - 0 = omega arith in
-    let a = c.args.a.now in
-    let r = c.find-r.result in (
-      omega arith,
-      refl,
-      λ n L σ M R l. (
-        ap (λ z. sets c.put_lead-m.new.out c.put_lead-m.result (rest σ (frozen a) r 0 z)) e,
-        ap (λ z. c.put_lead-m.result + length (rest σ (frozen a) r 0 z)) e,
-      ),
-    )
-
 pub put_name-m-requires : goal.put_name-m-requires
 put_name-m-requires t c =
     let P = c.requires in
@@ -94,7 +77,7 @@ put_name-m-requires t c =
     let e = c.field-k.ensures.0 in
     let f = c.field-k.ensures.1 in
     let p : 0 < tag_at (frozen c.args.a.now) c.find-r.result = ⊎_elim (λ z. absurd (c.if-field-eq-UNKNOWN.false (c.field.ensures.0 ∙ z))) (λ p. p) (eq-zero-or-pos _) in
-    let i = (c.loop-j.invariant.2 P.n P.L P.σ P.model P.resolved P.made).1 in
+    let i = (c.loop-j.invariant.1 P.n P.L P.σ P.model P.resolved P.made).1 in
     let w = m_length _ _ _ _ Q _ _ P.σ P.model P.made p _ e in
     let h = c.put_lead-m.ensures.end in
     let q = P.room in
@@ -120,7 +103,7 @@ write-m-requires t c =
     let w = frozen c.args.a.now in
     let pe = c.part.ensures.0 in
     let b = r_part _ _ _ Q _ _ P.model.marked P.made p P.small _ e j tk c.part.result pe in
-    let i = (c.loop-j.invariant.2 P.n P.L P.σ P.model P.resolved P.made).1 in
+    let i = (c.loop-j.invariant.1 P.n P.L P.σ P.model P.resolved P.made).1 in
     let y = m_length _ _ _ _ Q _ _ P.σ P.model P.made p _ e in
     let h = c.put_lead-m.ensures.end in
     let g = c.put_name-m.ensures.end in
@@ -130,12 +113,6 @@ write-m-requires t c =
     let m = c.decreases in
     let small = P.small in
     (omega (arith, b.1), record { n = P.n; L = P.L; σ = P.σ; model = P.model; resolved = P.resolved; made = b.0; few = P.few; small = omega (arith, b.1); room = omega arith })
-
-pub overflow_add-j : goal.overflow_add-j
-overflow_add-j t c = let tk = c.loop-j-test.true in let f = c.field-k.ensures.1 in omega arith
-
-pub loop-j-smaller : goal.loop-j-smaller
-loop-j-smaller t c = let tk = c.loop-j-test.true in omega arith
 
 pub loop-j-preserved : goal.loop-j-preserved
 loop-j-preserved t c =
@@ -148,22 +125,18 @@ loop-j-preserved t c =
     let i = c.loop-j.invariant in
     let w = frozen c.args.a.now in
     let pe = c.part.ensures.0 in (
-      omega arith,
-      c.write-m.auto.out ∙ c.put_name-m.auto.out ∙ i.1,
+      c.write-m.auto.out ∙ c.put_name-m.auto.out ∙ i.0,
       λ n L σ M R l.
           let b = r_part _ _ _ Q n L M.marked l p P.small _ e j tk c.part.result pe in
           let D = subst (λ z. Wrote c.put_name-m.new.out c.write-m.new.out c.put_name-m.result c.write-m.result (words (σ z))) pe (c.write-m.ensures n L σ M R b.0) in (
-            (i.2 n L σ M R l).0 ∙ step_area σ w c.find-r.result c.field-k.result j tk _ _ _ _ _ _ c.put_name-m.ensures D,
-            (i.2 n L σ M R l).1 ∙ step_end σ w c.find-r.result c.field-k.result j tk _ _ _ _ _ _ c.put_name-m.ensures D,
+            (i.1 n L σ M R l).0 ∙ step_area σ w c.find-r.result c.field-k.result j tk _ _ _ _ _ _ c.put_name-m.ensures D,
+            (i.1 n L σ M R l).1 ∙ step_end σ w c.find-r.result c.field-k.result j tk _ _ _ _ _ _ c.put_name-m.ensures D,
           ),
     )
 
-pub shape_of-out : goal.shape_of-out
-shape_of-out t c = c.loop-j.invariant.1 ∙ c.put_lead-m.auto.out
-
 pub returns : goal.returns
 returns t c =
-    let i = c.loop-j.invariant.2 in
+    let i = c.loop-j.invariant.1 in
     let w = frozen c.args.a.now in
     let r = c.find-r.result in
     let k = c.field-k.result in

@@ -1,6 +1,6 @@
 use mathlib.Core.Path.{sym, ap, ap₂, subst, ◌∙◌}
 use mathlib.Core.List.{[], ◌∷◌}
-use Prim.Native.Nat.{◌+◌, ◌-◌}
+use Prim.Native.Nat.{◌+◌}
 use lib.ListN.{set}
 use Rattle.types_cells.specs.Store.{frozen}
 use Rattle.types_solver.specs.Written.{Wrote, lead_at}

@@ -1,6 +1,6 @@
 use mathlib.Core.Path.{sym, ap, subst, ◌∙◌}
 use mathlib.Core.List.{[], ◌∷◌}
-use Prim.Native.Nat.{◌+◌, ◌-◌}
+use Prim.Native.Nat.{◌+◌}
 use lib.ListN.{get_or}
 use Rattle.types_cells.specs.Store.{frozen}
 use Rattle.types_solver.specs.Written.{Wrote, name_at}

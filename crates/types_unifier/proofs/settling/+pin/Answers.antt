@@ -1,7 +1,7 @@
 use mathlib.Core.Path.{refl, sym, ap, subst, ◌∙◌}
 use mathlib.Core.Bool.{true, false}
 use native.Mathlib.Omega.{arith}
-use Prim.Native.Nat.{◌+◌, ◌-◌}
+use Prim.Native.Nat.{◌+◌}
 use lib.ListN.{length, get_or}
 use Rattle.types_cells.specs.Store.{first_at}
 use Rattle.types_cells.specs.Calls.{Known}
@@ -12,12 +12,6 @@ use Rattle.types_cells.proofs.Reading.{heap_length, place_low}
 use Rattle.types_cells.proofs.SettlingLaws.{heap_kept, kept_held}
 use Rattle.types_unifier.proofs.Walking.{pin_root, pin_unlike, pin_done, pin_failed, pin_next, pin_ahead, pin_start, part_below, root_below, pin_as, reads_as}
 use Rattle.types_unifier.proofs.settling.+pin.Goals as goal
-
-pub find-r-requires : goal.find-r-requires
-find-r-requires t c =
-    let P = c.requires in
-    let K : Known c.args.a.now c.args.c = record { n = P.n; L = P.L; held = P.held; made = P.made } in
-    K
 
 pub field-t-requires : goal.field-t-requires
 field-t-requires t c =
@@ -157,15 +151,6 @@ skip-at-requires t c =
     let hk = heap_kept _ _ c.args.d.now Y.kept.low ∙ heap_kept c.args.a.now c.loop-j.a c.args.d.now I.kept.low in
     record { areas = record { size = Y.kept.size ∙ I.kept.size ∙ P.held.size; few = let f = P.few in omega arith }; readable = record { type = A.part; reads = reads_as _ _ _ A.part hk A.reads } }
 
-pub overflow_add-j : goal.overflow_add-j
-overflow_add-j t c =
-    let g = c.field-n.ensures.1 in
-    let q = c.loop-j-test.true in
-    omega arith
-
-pub loop-j-smaller : goal.loop-j-smaller
-loop-j-smaller t c = let q = c.loop-j-test.true in omega arith
-
 pub loop-j-preserved : goal.loop-j-preserved
 loop-j-preserved t c =
     let P = c.requires in
@@ -181,13 +166,10 @@ loop-j-preserved t c =
     let ee = c.skip-at.ensures.is A.part (reads_as _ _ _ A.part hk A.reads) in
     let o = I.later in
     let pe = c.part.ensures.0 ∙ ap (λ z. get_or z (first_at z c.find-r.result + c.loop-j.j) 0) I.kept.still in
-    pin_next _ _ _ _ _ _ Q ek tx _ _ _ _ I X lt _ _ (pin_as _ _ _ _ _ _ _ true Y pe c.if-pin.true) c.skip-at.ensures (omega arith)
+    pin_next _ _ _ _ _ _ Q ek tx _ _ _ _ I X lt _ _ (pin_as _ _ _ _ _ _ _ true Y pe c.if-not-pin.false) c.skip-at.ensures (omega arith)
 
-pub shape_of-a-else-pin : goal.shape_of-a-else-pin
-shape_of-a-else-pin t c = c.pin.ensures.kept.size ∙ c.loop-j.invariant.kept.size
-
-pub returns-else-pin : goal.returns-else-pin
-returns-else-pin t c =
+pub returns-then-not-pin : goal.returns-then-not-pin
+returns-then-not-pin t c =
     let P = c.requires in
     let Q = c.find-r.ensures in
     let ek = c.field-n.ensures.0 in
@@ -197,10 +179,7 @@ returns-else-pin t c =
     let lt = c.loop-j-test.true in
     let Y = c.pin.ensures in
     let pe = c.part.ensures.0 ∙ ap (λ z. get_or z (first_at z c.find-r.result + c.loop-j.j) 0) I.kept.still in
-    pin_failed _ _ _ _ _ _ Q ek tx _ _ _ _ I X lt _ (pin_as _ _ _ _ _ _ _ false Y pe c.if-pin.false)
-
-pub shape_of-a-then-same_former : goal.shape_of-a-then-same_former
-shape_of-a-then-same_former t c = c.loop-j.invariant.kept.size
+    pin_failed _ _ _ _ _ _ Q ek tx _ _ _ _ I X lt _ (pin_as _ _ _ _ _ _ _ false Y pe c.if-not-pin.true)
 
 pub returns-then-same_former : goal.returns-then-same_former
 returns-then-same_former t c =

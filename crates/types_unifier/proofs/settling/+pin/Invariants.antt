@@ -9,6 +9,3 @@ decreases-pin l = length (heap l.a.now l.d.now) - l.p
 
 abbrev pub invariant-loop-j : goal.invariant-loop-j
 invariant-loop-j l = Loop l.initial.a l.a l.d l.c l.r l.n l.w l.at l.j l.p
-
-abbrev pub decreases-loop-j : goal.decreases-loop-j
-decreases-loop-j l = l.n - l.j

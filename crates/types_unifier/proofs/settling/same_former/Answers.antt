@@ -1,7 +1,7 @@
 use mathlib.Core.Path.{refl, sym, ap, subst, ◌∙◌}
 use mathlib.Core.Bool.{true, false}
 use native.Mathlib.Omega.{arith}
-use Prim.Native.Nat.{◌+◌, ◌-◌}
+use Prim.Native.Nat.{◌+◌}
 use lib.ListN.{get_or}
 use Rattle.types_rules.proofs.Terms.{bool_no}
 use Rattle.types_cells.specs.Settled.{heap, parts_of, lead_words}
@@ -10,17 +10,8 @@ use Rattle.types_cells.proofs.Reading.{place_few, parts_5}
 use Rattle.types_unifier.proofs.MeetingLaws.{tag_differs, count_differs, plain_like, plain_unlike, names_like, two_words}
 use Rattle.types_unifier.proofs.settling.same_former.Goals as goal
 
-pub field-t-requires : goal.field-t-requires
-field-t-requires c = (let f = c.requires.few in omega arith, omega arith)
-
-pub type_word-requires : goal.type_word-requires
-type_word-requires c = c.requires.areas.size
-
 pub returns-then-t-type_word : goal.returns-then-t-type_word
 returns-then-t-type_word c = record { tells = λ h gs R. record { holds = λ z. absurd (bool_no false z refl); fails = λ z. tag_differs _ _ _ _ c.requires h gs R (λ q. c.if-t-type_word.true (c.field-t.ensures.0 ∙ q ∙ sym c.type_word.ensures.0)) } }
-
-pub field-n-requires : goal.field-n-requires
-field-n-requires c = (let f = c.requires.few in omega arith, omega arith)
 
 pub parts_of-requires : goal.parts_of-requires
 parts_of-requires c = (c.requires.areas.size, let z = place_few _ _ _ _ c.requires.areas c.requires.readable.reads in omega arith)
@@ -58,14 +49,8 @@ returns-then-lead_words-eq1 c =
     let one = sym c.lead_words.ensures.0 ∙ c.if-lead_words-eq1.true in
     record { tells = λ h gs R. record { holds = λ z. plain_like _ _ _ _ c.requires h gs R t k (λ q. c.if-t-eq-BINDING.false (c.field-t.ensures.0 ∙ q)) (λ q. let y = sym (ap lead_words c.field-t.ensures.0) ∙ one in absurd (omega arith)); fails = λ z. absurd (bool_no true refl z) } }
 
-pub field-requires : goal.field-requires
-field-requires c = (let f = c.requires.few in omega arith, omega arith)
-
 pub overflow_add-p : goal.overflow_add-p
 overflow_add-p c = let z = place_few _ _ _ _ c.requires.areas c.requires.readable.reads in omega arith
-
-pub type_word-requires-2 : goal.type_word-requires-2
-type_word-requires-2 c = c.requires.areas.size
 
 pub returns-then-field-type_word : goal.returns-then-field-type_word
 returns-then-field-type_word c =

@@ -1,23 +1,21 @@
-use mathlib.Core.Path.{◌≡◌, refl, sym, ap, ◌∙◌}
+use mathlib.Core.Path.{refl, sym, ap, ◌∙◌}
 use mathlib.Core.Bool.{true, false}
 use native.Mathlib.Omega.{arith}
-use Prim.Native.Nat.{◌+◌, ◌-◌}
+use Prim.Native.Nat.{◌+◌}
 use lib.ListN.{get_or}
+use borrow.Author.Count.{below_more}
 use Rattle.types_rules.proofs.Terms.{bool_no}
 use Rattle.types_cells.specs.Store.{frozen}
-use Rattle.types_cells.proofs.Reading.{place_few, below_next, names_length, heap_length}
+use Rattle.types_cells.proofs.Reading.{place_few, names_length, heap_length}
 use Rattle.types_unifier.proofs.MeetingLaws.{named_start, named_step, named_on, ids_yes, ids_no, binding_of_lem}
 use Rattle.types_cells.proofs.Words.{frozen_length}
 use Rattle.types_unifier.proofs.settling.same_names.Goals as goal
-
-pub field-ids-requires : goal.field-ids-requires
-field-ids-requires c = (let f = c.requires.meeting.few in omega arith, omega arith)
 
 pub overflow_add-at : goal.overflow_add-at
 overflow_add-at c = let z = place_few _ _ _ _ c.requires.meeting.areas c.requires.meeting.readable.reads in omega arith
 
 pub loop-j-init : goal.loop-j-init
-loop-j-init c = (omega arith, λ l gs R. (named_start _ _ _ l gs R c.requires.parts_at, λ i q. absurd (omega arith)))
+loop-j-init c = λ l gs R. (named_start _ _ _ l gs R c.requires.parts_at, λ i q. absurd (omega arith))
 
 pub overflow_add-ids : goal.overflow_add-ids
 overflow_add-ids c = let f = c.field-ids.ensures.1 in let l = c.loop-j-test.true in let k = c.requires.count in let q = c.requires.meeting.cell.named c.requires.binds in let e = c.field-ids.ensures.0 in let z = c.requires.meeting.areas.size in omega (arith, frozen_length c.args.a.now z)
@@ -25,14 +23,11 @@ overflow_add-ids c = let f = c.field-ids.ensures.1 in let l = c.loop-j-test.true
 pub held-requires : goal.held-requires
 held-requires c = let f = c.field-ids.ensures.1 in let l = c.loop-j-test.true in let k = c.requires.count in let q = c.requires.meeting.cell.named c.requires.binds in let e = c.field-ids.ensures.0 in let z = c.requires.meeting.areas.size in omega (arith, frozen_length c.args.a.now z)
 
-pub type_word-requires : goal.type_word-requires
-type_word-requires c = c.requires.meeting.areas.size
-
 pub returns-then-held-type_word : goal.returns-then-held-type_word
 returns-then-held-type_word c =
     record {
       tells = λ l gs R.
-          let I = c.loop-j.invariant.1 l gs R in
+          let I = c.loop-j.invariant l gs R in
           let S = named_step _ _ _ _ l I.0 c.loop-j-test.true in
           record {
             holds = λ z. absurd (bool_no false z refl);
@@ -43,7 +38,7 @@ returns-then-held-type_word c =
 pub overflow_add-at-in-loop-j : goal.overflow_add-at-in-loop-j
 overflow_add-at-in-loop-j c =
     let B = binding_of_lem _ _ _ c.requires.meeting.readable.reads c.requires.tag_there in
-    let S = named_step _ _ _ _ _ (c.loop-j.invariant.1 B.0 B.1 B.2).0 c.loop-j-test.true in
+    let S = named_step _ _ _ _ _ (c.loop-j.invariant B.0 B.1 B.2).0 c.loop-j-test.true in
     let q = S.low in
     let h = heap_length c.args.a.now c.args.d.now c.requires.meeting.areas.size in
     let f = c.requires.meeting.areas.few in
@@ -52,32 +47,23 @@ overflow_add-at-in-loop-j c =
 pub skip-at-requires : goal.skip-at-requires
 skip-at-requires c =
     let B = binding_of_lem _ _ _ c.requires.meeting.readable.reads c.requires.tag_there in
-    let S = named_step _ _ _ _ _ (c.loop-j.invariant.1 B.0 B.1 B.2).0 c.loop-j-test.true in
+    let S = named_step _ _ _ _ _ (c.loop-j.invariant B.0 B.1 B.2).0 c.loop-j-test.true in
     record { areas = c.requires.meeting.areas; readable = record { type = S.part; reads = S.reads } }
-
-pub overflow_add-j : goal.overflow_add-j
-overflow_add-j c = let l = c.loop-j-test.true in let k = c.requires.count in let q = c.requires.meeting.cell.room in let z = c.requires.meeting.areas.size in omega (arith, frozen_length c.args.a.now z)
-
-pub loop-j-smaller : goal.loop-j-smaller
-loop-j-smaller c = let l = c.loop-j-test.true in omega arith
 
 pub loop-j-preserved : goal.loop-j-preserved
 loop-j-preserved c =
-    let lt = c.loop-j-test.true in (
-      omega arith,
-      λ l gs R.
-          let I = c.loop-j.invariant.1 l gs R in
-          let S = named_step _ _ _ _ l I.0 lt in (
-            named_on _ _ _ _ _ l S (c.skip-at.ensures.is S.part S.reads),
-            below_next (λ i. get_or (frozen c.args.a.now) (c.field-ids.result + i) 0 ≡ get_or l i 0) c.loop-j.j I.1 (sym c.held.ensures.0 ∙ c.if-held-type_word.false ∙ c.type_word.ensures.0 ∙ sym S.here),
-          ),
+    λ l gs R.
+    let I = c.loop-j.invariant l gs R in
+    let S = named_step _ _ _ _ l I.0 c.loop-j-test.true in (
+      named_on _ _ _ _ _ l S (c.skip-at.ensures.is S.part S.reads),
+      below_more _ _ I.1 (sym c.held.ensures.0 ∙ c.if-held-type_word.false ∙ c.type_word.ensures.0 ∙ sym S.here),
     )
 
 pub returns : goal.returns
 returns c =
     record {
       tells = λ l gs R.
-          let I = c.loop-j.invariant.1 l gs R in
+          let I = c.loop-j.invariant l gs R in
           let P = c.requires in
           let q = c.loop-j-test.false in
           record {

@@ -7,12 +7,6 @@ use Rattle.types_cells.proofs.SettlingLaws.{settled, compared}
 use Rattle.types_cells.proofs.Reading.{place_low, heap_length}
 use Rattle.types_unifier.proofs.settling.settle.Goals as goal
 
-pub overflow_add-r : goal.overflow_add-r
-overflow_add-r c = let f = c.requires.pinning.held.few in let l = c.requires.pinning.made in omega arith
-
-pub overflow_add-r-then-q-lt-SETTLED : goal.overflow_add-r-then-q-lt-SETTLED
-overflow_add-r-then-q-lt-SETTLED c = let f = c.requires.pinning.held.few in let l = c.requires.pinning.made in omega arith
-
 pub overflow_add-p : goal.overflow_add-p
 overflow_add-p c =
     let P = c.requires.pinning in

@@ -1,4 +1,4 @@
-use Prim.Native.Nat.{◌+◌, ◌-◌}
+use Prim.Native.Nat.{◌+◌}
 use Rattle.types_cells.specs.Layout.{max_cells}
 use Rattle.types_cells.specs.Store.{weight}
 use Rattle.types_unifier.proofs.Turns.{Draining}

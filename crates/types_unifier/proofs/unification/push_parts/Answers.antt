@@ -1,5 +1,5 @@
-use mathlib.Core.Path.{◌≡◌, refl, sym, ap, ap₂, ◌∙◌}
-use Prim.Native.Nat.{◌+◌, ◌-◌, ◌<◌}
+use mathlib.Core.Path.{◌≡◌, sym, ap, ap₂, ◌∙◌}
+use Prim.Native.Nat.{◌+◌, ◌<◌}
 use native.Mathlib.Omega.{arith}
 use lib.ListN.{length, get_or, length-set}
 use Rattle.types_cells.specs.Layout.{max_pending, area_size}
@@ -8,9 +8,6 @@ use mathlib.Core.Option.{some}
 use Rattle.types_unifier.proofs.PendingLaws.{left, left_start, left_end, left_step, push_frozen, push_front, pushed}
 use Rattle.types_rules.specs.Classes.{zip_n}
 use Rattle.types_unifier.proofs.unification.push_parts.Goals as goal
-
-pub loop-j-init : goal.loop-j-init
-loop-j-init c = (omega arith, refl, refl, λ i l. refl, refl)
 
 pub loop-j-preserved : goal.loop-j-preserved
 loop-j-preserved c =
@@ -23,21 +20,17 @@ loop-j-preserved c =
     let me = c.field-m.ensures.0 in
     let jm = c.loop-j-test.true in
     let p = c.requires in
-    let size : length a ≡ area_size = i.1 ∙ p.size in
+    let size : length a ≡ area_size = i.0 ∙ p.size in
     let lk : k + j < max_pending = omega arith in
-    let ep : c.part-p.result ≡ get_or w (first_at w c.args.x + j) 0 = c.part-p.ensures.0 ∙ ap (λ z. get_or z (first_at z c.args.x + j) 0) i.2 in
-    let eq : c.part-q.result ≡ get_or w (first_at w c.args.y + j) 0 = c.part-q.ensures.0 ∙ ap (λ z. get_or z (first_at z c.args.y + j) 0) i.2 in
+    let ep : c.part-p.result ≡ get_or w (first_at w c.args.x + j) 0 = c.part-p.ensures.0 ∙ ap (λ z. get_or z (first_at z c.args.x + j) 0) i.1 in
+    let eq : c.part-q.result ≡ get_or w (first_at w c.args.y + j) 0 = c.part-q.ensures.0 ∙ ap (λ z. get_or z (first_at z c.args.y + j) 0) i.1 in
     let e = c.push.ensures ∙ ap₂ (λ u v. pushed a (k + j) u v) ep eq in (
-      omega arith,
-      ap length e ∙ (simp length-set) ∙ i.1,
-      ap frozen e ∙ push_frozen a (k + j) _ _ size lk ∙ i.2,
-      λ t l. ap (λ z. get_or z t 0) e ∙ push_front a (k + j) _ _ size lk t l ∙ i.3 t l,
+      ap length e ∙ (simp length-set) ∙ i.0,
+      ap frozen e ∙ push_frozen a (k + j) _ _ size lk ∙ i.1,
+      λ t l. ap (λ z. get_or z t 0) e ∙ push_front a (k + j) _ _ size lk t l ∙ i.2 t l,
       ap (λ z. left w (first_at w c.args.x) (first_at w c.args.y) m z k (j + 1)) e
-          ∙ left_step w (first_at w c.args.x) (first_at w c.args.y) m a k j size lk jm (omega (arith, p.two.left.room)) (omega (arith, p.two.right.room, p.same)) ∙ i.4,
+          ∙ left_step w (first_at w c.args.x) (first_at w c.args.y) m a k j size lk jm (omega (arith, p.two.left.room)) (omega (arith, p.two.right.room, p.same)) ∙ i.3,
     )
-
-pub shape_of-a : goal.shape_of-a
-shape_of-a c = c.loop-j.invariant.1
 
 pub returns : goal.returns
 returns c =
@@ -51,10 +44,10 @@ returns c =
     let jm : c.loop-j.j ≡ m = omega arith in
     record {
       count = ap (λ z. k + z) me;
-      still = i.2;
-      front = i.3;
+      still = i.1;
+      front = i.2;
       pairs = ap₂ (λ u v. zip_n (run w (first_at w x) u) (run w (first_at w y) v) (pending c.args.a.now k)) (sym me) (sym (me ∙ c.requires.same))
-          ∙ sym (left_start w (first_at w x) (first_at w y) m c.args.a.now k) ∙ sym i.4
+          ∙ sym (left_start w (first_at w x) (first_at w y) m c.args.a.now k) ∙ sym i.3
           ∙ left_end w (first_at w x) (first_at w y) m c.loop-j.a k c.loop-j.j c.loop-j-test.false
           ∙ ap (λ z. some (pending c.loop-j.a (k + z))) jm;
     }

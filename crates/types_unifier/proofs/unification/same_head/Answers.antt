@@ -1,7 +1,6 @@
 use Rattle.types_cells.specs.Store.{frozen, tag_at}
 use mathlib.Core.Path.{◌≡◌, refl, sym, ◌∙◌}
-use native.Mathlib.Omega.{arith}
-use mathlib.Core.Bool.{true, false}
+use mathlib.Core.Bool.{false}
 use borrow.Author.Tests.{eqb-true, eqb-false}
 use Rattle.types_unifier.proofs.ComparingLaws.{tag_no, same_arg, other_arg, same_ids, other_ids}
 use Rattle.types_rules.proofs.Terms.{bool_no}
@@ -9,21 +8,6 @@ use Rattle.types_unifier.proofs.unification.same_head.Goals as goal
 
 pub returns-then-t-field : goal.returns-then-t-field
 returns-then-t-field c = record { holds = λ e. absurd (bool_no false e refl); fails = λ e. tag_no _ _ _ c.requires (λ q. c.if-t-field.true (c.field-t.ensures.0 ∙ q ∙ sym c.field.ensures.0)) }
-
-pub returns-then-k-field : goal.returns-then-k-field
-returns-then-k-field c = record { holds = λ e. absurd (bool_no false e refl); fails = λ e q. c.if-k-field.true (c.field-k.ensures.0 ∙ q.1 ∙ sym c.field-2.ensures.0) }
-
-pub same_run-requires : goal.same_run-requires
-same_run-requires c =
-    let p = c.requires in
-    let e = c.field-t.ensures.0 in
-    let t = sym e ∙ c.if-t-eq-BINDING.true in
-    let u = sym c.field.ensures.0 ∙ sym c.if-t-field.false ∙ c.if-t-eq-BINDING.true in
-    record {
-      size = p.size;
-      left = omega (arith, p.left.named t, c.field-p.ensures.0, c.field-k.ensures.0);
-      right = omega (arith, p.right.named u, c.field-q.ensures.0, c.field-k.ensures.0, c.field-2.ensures.0);
-    }
 
 pub returns-then-t-eq-BINDING : goal.returns-then-t-eq-BINDING
 returns-then-t-eq-BINDING c =

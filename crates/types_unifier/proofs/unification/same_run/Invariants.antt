@@ -1,11 +1,8 @@
 use mathlib.Core.Path.{◌≡◌}
-use Prim.Native.Nat.{ℕ, ◌+◌, ◌-◌, ◌≤◌, ◌<◌}
+use Prim.Native.Nat.{ℕ, ◌+◌, ◌<◌}
 use lib.ListN.{get_or}
 use Rattle.types_cells.specs.Store.{frozen}
 use Rattle.types_unifier.proofs.unification.same_run.Given as goal
 
 abbrev pub invariant-loop-j : goal.invariant-loop-j
-invariant-loop-j l = (l.j ≤ l.k) × ((i : ℕ) → i < l.j → get_or (frozen l.a) (l.p + i) 0 ≡ get_or (frozen l.a) (l.q + i) 0)
-
-abbrev pub decreases-loop-j : goal.decreases-loop-j
-decreases-loop-j l = l.k - l.j
+invariant-loop-j l = (i : ℕ) → i < l.j → get_or (frozen l.a) (l.p + i) 0 ≡ get_or (frozen l.a) (l.q + i) 0

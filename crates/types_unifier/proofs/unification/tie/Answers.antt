@@ -1,4 +1,4 @@
-use mathlib.Core.Path.{sym, ap, subst, ◌∙◌}
+use mathlib.Core.Path.{sym, ap, subst}
 use native.Mathlib.Omega.{arith}
 use Prim.Native.Nat.{◌-◌}
 use Rattle.types_cells.specs.Layout.{settled_from}
@@ -6,12 +6,6 @@ use Rattle.types_cells.specs.Settled.{word_at}
 use Rattle.types_unifier.specs.Merging.{Tied}
 use Rattle.types_unifier.proofs.Tying.{tied_none, tied_some, pinning_y, pinning_as, pin_from}
 use Rattle.types_unifier.proofs.unification.tie.Goals as goal
-
-pub overflow_add-x : goal.overflow_add-x
-overflow_add-x c = let f = c.requires.held.few in let l = c.requires.left in omega arith
-
-pub set_link-requires : goal.set_link-requires
-set_link-requires c = let f = c.requires.held.few in let l = c.requires.left in let r = c.requires.right in (omega arith, omega arith)
 
 pub returns-then-q-lt-SETTLED : goal.returns-then-q-lt-SETTLED
 unfolding word_at
@@ -26,9 +20,6 @@ pin-requires c =
     let e = c.word-q.ensures.0 in
     let l = c.if-q-lt-SETTLED.false in
     pinning_as _ _ _ _ _ _ c.set_link.ensures (ap (λ z. z - settled_from) e) (pinning_y _ _ _ _ c.requires (omega arith))
-
-pub shape_of-a : goal.shape_of-a
-shape_of-a c = c.pin.ensures.kept.size ∙ c.set_link.auto.a
 
 pub returns : goal.returns
 unfolding word_at

@@ -1,23 +1,10 @@
 use mathlib.Core.Path.{sym, subst}
-use native.Mathlib.Omega.{arith}
 use Rattle.types_cells.specs.Calls.{Known, Root}
-use Rattle.types_unifier.proofs.Turns.{known_a, known_b, few, skip_turned}
+use Rattle.types_unifier.proofs.Turns.{known_a, known_b, skip_turned}
 use Rattle.types_unifier.proofs.unification.turn.Goals as goal
-
-pub overflow_mul-k : goal.overflow_mul-k
-overflow_mul-k c = let l = few _ _ _ c.requires in omega arith
-
-pub overflow_add-k : goal.overflow_add-k
-overflow_add-k c = let l = few _ _ _ c.requires in omega arith
 
 pub find-x-requires : goal.find-x-requires
 find-x-requires c = subst (λ z. Known c.args.a.now z) (sym c.word.ensures.0) (known_a _ _ _ c.requires)
-
-pub overflow_mul-k-2 : goal.overflow_mul-k-2
-overflow_mul-k-2 c = let l = few _ _ _ c.requires in omega arith
-
-pub overflow_add-k-2 : goal.overflow_add-k-2
-overflow_add-k-2 c = let l = few _ _ _ c.requires in omega arith
 
 pub find-y-requires : goal.find-y-requires
 find-y-requires c = subst (λ z. Known c.args.a.now z) (sym c.word-2.ensures.0) (known_b _ _ _ c.requires)
@@ -26,12 +13,3 @@ pub returns-then-x-y : goal.returns-then-x-y
 returns-then-x-y c =
     skip_turned _ _ _ c.requires _ _ (subst (λ z. Root c.args.a.now z c.find-x.result) c.word.ensures.0 c.find-x.ensures)
     (subst (λ z. Root c.args.a.now z c.find-y.result) c.word-2.ensures.0 c.find-y.ensures) c.if-x-y.true
-
-pub join-requires : goal.join-requires
-join-requires c =
-    record {
-      reading = c.requires;
-      left = subst (λ z. Root c.args.a.now z c.find-x.result) c.word.ensures.0 c.find-x.ensures;
-      right = subst (λ z. Root c.args.a.now z c.find-y.result) c.word-2.ensures.0 c.find-y.ensures;
-      apart = c.if-x-y.false;
-    }

@@ -12,33 +12,32 @@ returns-then-word-ne-SET c = rw (← c.word.ensures.0, ne_eqb _ 3 c.if-word-ne-S
 
 pub loop-i-init : goal.loop-i-init
 unfolding apply apply_from seen
-loop-i-init c = (omega arith, omega arith, omega arith, omega arith, rw (← c.word.ensures.0, eq-eqb _ 3 c.if-word-ne-SET.false, sub-zero, c.word-n.ensures.0))
+loop-i-init c = (omega arith, omega arith, omega arith, rw (← c.word.ensures.0, eq-eqb _ 3 c.if-word-ne-SET.false, sub-zero, c.word-n.ensures.0))
 
 pub loop-i-preserved : goal.loop-i-preserved
 loop-i-preserved c =
     let s = c.args in
     let w = c.from-w.ensures in
-    let e : is_pair (drop c.loop-i.at s.f.now) ≡ true = rw (← w) (sym c.is_pair.ensures ∙ c.if-is_pair.true) in
+    let e : is_pair (drop c.loop-i.at s.f.now) ≡ true = rw (← w) (sym c.is_pair.ensures ∙ c.if-not-is_pair.false) in
     let k = c.span-at.ensures.0 ∙ ap span w in (
       omega arith,
       omega arith,
       omega arith,
-      omega arith,
-      c.loop-i.invariant.4 ∙ elim c.if-same.branch [
-        | then-same p ↦ rw (p.hits-is, p.hit-is) (apply_hit s.f.now s.a.now _ c.loop-i.i c.loop-i.at c.loop-i.hits c.loop-i.hit (omega arith) e c.span-at.result k
+      c.loop-i.invariant.3 ∙ elim c.if-same.branch [
+        | then-same p ↦ rw (p.hits-is, p.hit-is) (apply_hit s.f.now s.a.now _ c.loop-i._i c.loop-i.at c.loop-i.hits c.loop-i.hit (omega arith) e c.span-at.result k
             (rw (← w, ← c.from.ensures, ← c.first.ensures) (sym c.same.ensures ∙ p.if-same.true)))
-        | else-same p ↦ rw (p.hits-is, p.hit-is) (apply_go s.f.now s.a.now _ c.loop-i.i c.loop-i.at c.loop-i.hits c.loop-i.hit (omega arith) e c.span-at.result k
+        | else-same p ↦ rw (p.hits-is, p.hit-is) (apply_go s.f.now s.a.now _ c.loop-i._i c.loop-i.at c.loop-i.hits c.loop-i.hit (omega arith) e c.span-at.result k
             (rw (← w, ← c.from.ensures, ← c.first.ensures) (sym c.same.ensures ∙ p.if-same.false)))
       ],
     )
 
-pub returns-else-is_pair : goal.returns-else-is_pair
-returns-else-is_pair c =
-    apply_misfit c.args.f.now c.args.a.now c.word-n.result c.loop-i.i c.loop-i.at c.loop-i.hits c.loop-i.hit (omega arith)
-    (rw (← c.from-w.ensures) (sym c.is_pair.ensures ∙ c.if-is_pair.false)) ∙ sym c.loop-i.invariant.4
+pub returns-then-not-is_pair : goal.returns-then-not-is_pair
+returns-then-not-is_pair c =
+    apply_misfit c.args.f.now c.args.a.now c.word-n.result c.loop-i._i c.loop-i.at c.loop-i.hits c.loop-i.hit (omega arith)
+    (rw (← c.from-w.ensures) (sym c.is_pair.ensures ∙ c.if-not-is_pair.true)) ∙ sym c.loop-i.invariant.3
 
 pub returns-then-hits-eq1 : goal.returns-then-hits-eq1
-returns-then-hits-eq1 c = c.second.ensures ∙ apply_one c.args.f.now c.args.a.now c.word-n.result c.loop-i.i c.loop-i.at c.loop-i.hits c.loop-i.hit (omega arith) c.if-hits-eq1.true ∙ sym c.loop-i.invariant.4
+returns-then-hits-eq1 c = c.second.ensures ∙ apply_one c.args.f.now c.args.a.now c.word-n.result c.loop-i._i c.loop-i.at c.loop-i.hits c.loop-i.hit (omega arith) c.if-hits-eq1.true ∙ sym c.loop-i.invariant.3
 
 pub returns : goal.returns
-returns c = apply_none c.args.f.now c.args.a.now c.word-n.result c.loop-i.i c.loop-i.at c.loop-i.hits c.loop-i.hit (omega arith) c.if-hits-eq1.false ∙ sym c.loop-i.invariant.4
+returns c = apply_none c.args.f.now c.args.a.now c.word-n.result c.loop-i._i c.loop-i.at c.loop-i.hits c.loop-i.hit (omega arith) c.if-hits-eq1.false ∙ sym c.loop-i.invariant.3

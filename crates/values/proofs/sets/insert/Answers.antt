@@ -1,10 +1,10 @@
 use Rattle.values.specs.Sets.{insert, insert_at}
 use Rattle.values.proofs.sets.insert.Goals as goal
 
-pub returns-in-Already : goal.returns-in-Already
+pub returns-in-None : goal.returns-in-None
 unfolding insert insert_at
-returns-in-Already c = rw (← c.place_of-p.ensures, c.in-Already.is) c.hold.ensures
+returns-in-None c = rw (← c.place_of-p.ensures, c.in-None.is) c.hold.ensures
 
-pub returns-in-At : goal.returns-in-At
+pub returns-in-Some : goal.returns-in-Some
 unfolding insert
-returns-in-At c = rw (← c.place_of-p.ensures, c.in-At.is) c.insert_at.ensures
+returns-in-Some c = rw (← c.place_of-p.ensures, c.in-Some.is) c.insert_at.ensures

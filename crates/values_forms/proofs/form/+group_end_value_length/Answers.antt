@@ -1,24 +1,17 @@
 use mathlib.Core.Path.{sym, ◌∙◌}
 use Prim.Native.Nat.{◌-◌, ◌≤◌}
 use native.Mathlib.Omega.{arith}
-use native.Mathlib.Nat.{sub-zero}
 use lib.ListN.{length, take, drop, length-drop}
 use Rattle.values.specs.Givens.{size_of}
 use Rattle.values.specs.Form.{by_shape, value_length}
 use Rattle.values_forms.proofs.Forms.{shape_within, length_none, length_level, group_none, group_stop, group_go, group_done}
 use Rattle.values_forms.proofs.form.+group_end_value_length.Goals as goal
 
-pub group_end-loop-i-init : goal.group_end-loop-i-init
-group_end-loop-i-init t c = (omega arith, omega arith, c.requires, rw sub-zero)
-
-pub group_end-value_length-k-requires : goal.group_end-value_length-k-requires
-group_end-value_length-k-requires t c = (omega (arith, c.decreases), tt)
-
 pub group_end-returns-then-k-eq0 : goal.group_end-returns-then-k-eq0
 group_end-returns-then-k-eq0 t c =
     let s = c.args in (
-      group_none (value_length (size_of s.givens.now) s.depth) s.ascending s.w.now s.n c.loop-i.i c.loop-i.last c.loop-i.at c.loop-i-test.true
-          (rw (← c.from.ensures) (sym c.value_length-k.ensures.0 ∙ c.if-k-eq0.true)) ∙ sym c.loop-i.invariant.3,
+      group_none (value_length (size_of s.givens.now) s.depth) s.ascending s.w.now s.n c.loop-i._i c.loop-i.last c.loop-i.at c.loop-i-test.true
+          (rw (← c.from.ensures) (sym c.value_length-k.ensures.0 ∙ c.if-k-eq0.true)) ∙ sym c.loop-i.invariant.2,
       omega arith,
     )
 
@@ -30,26 +23,25 @@ group_end-loop-i-preserved t c =
     let d = length-drop c.loop-i.at s.w.now in (
       omega arith,
       omega arith,
-      omega arith,
-      c.loop-i.invariant.3 ∙ group_go (value_length (size_of s.givens.now) s.depth) s.ascending s.w.now s.n c.loop-i.i c.loop-i.last c.loop-i.at c.loop-i-test.true
+      c.loop-i.invariant.2 ∙ group_go (value_length (size_of s.givens.now) s.depth) s.ascending s.w.now s.n c.loop-i._i c.loop-i.last c.loop-i.at c.loop-i-test.true
           c.value_length-k.result (rw f at c.value_length-k.ensures.0) c.if-k-eq0.false
-          (rw (← c.span.ensures, ← c.span-in-loop-i.ensures) (sym c.follows.ensures ∙ c.if-follows.true)),
+          (rw (← c.span.ensures, ← c.span-in-loop-i.ensures) (sym c.follows.ensures ∙ c.if-not-follows.false)),
     )
 
-pub group_end-returns-else-follows : goal.group_end-returns-else-follows
-group_end-returns-else-follows t c =
+pub group_end-returns-then-not-follows : goal.group_end-returns-then-not-follows
+group_end-returns-then-not-follows t c =
     let s = c.args in
     let f = c.from.ensures in (
-      group_stop (value_length (size_of s.givens.now) s.depth) s.ascending s.w.now s.n c.loop-i.i c.loop-i.last c.loop-i.at c.loop-i-test.true
+      group_stop (value_length (size_of s.givens.now) s.depth) s.ascending s.w.now s.n c.loop-i._i c.loop-i.last c.loop-i.at c.loop-i-test.true
           c.value_length-k.result (rw f at c.value_length-k.ensures.0) c.if-k-eq0.false
-          (rw (← c.span.ensures, ← c.span-in-loop-i.ensures) (sym c.follows.ensures ∙ c.if-follows.false)) ∙ sym c.loop-i.invariant.3,
+          (rw (← c.span.ensures, ← c.span-in-loop-i.ensures) (sym c.follows.ensures ∙ c.if-not-follows.true)) ∙ sym c.loop-i.invariant.2,
       omega arith,
     )
 
 pub group_end-returns : goal.group_end-returns
 group_end-returns t c =
     let s = c.args in
-    (group_done (value_length (size_of s.givens.now) s.depth) s.ascending (take (c.loop-i.at - c.loop-i.last) (drop c.loop-i.last s.w.now)) (drop c.loop-i.at s.w.now) s.n c.loop-i.i c.loop-i.at c.loop-i-test.false ∙ sym c.loop-i.invariant.3, omega arith)
+    (group_done (value_length (size_of s.givens.now) s.depth) s.ascending (take (c.loop-i.at - c.loop-i.last) (drop c.loop-i.last s.w.now)) (drop c.loop-i.at s.w.now) s.n c.loop-i._i c.loop-i.at c.loop-i-test.false ∙ sym c.loop-i.invariant.2, omega arith)
 
 pub value_length-returns-then-depth-eq0 : goal.value_length-returns-then-depth-eq0
 value_length-returns-then-depth-eq0 t c =

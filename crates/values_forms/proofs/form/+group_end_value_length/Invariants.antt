@@ -13,7 +13,4 @@ abbrev pub decreases-value_length : goal.decreases-value_length
 decreases-value_length l = 2 * l.depth
 
 abbrev pub invariant-group_end-loop-i : goal.invariant-group_end-loop-i
-invariant-group_end-loop-i l = (l.i ≤ l.n) × (l.last ≤ l.at) × (l.at ≤ length l.w) × (group_end (value_length (size_of l.givens) l.depth) l.ascending l.n [] (drop 2 l.w) 2 ≡ group_end (value_length (size_of l.givens) l.depth) l.ascending (l.n - l.i) (take (l.at - l.last) (drop l.last l.w)) (drop l.at l.w) l.at)
-
-abbrev pub decreases-group_end-loop-i : goal.decreases-group_end-loop-i
-decreases-group_end-loop-i l = l.n - l.i
+invariant-group_end-loop-i l = (l.last ≤ l.at) × (l.at ≤ length l.w) × (group_end (value_length (size_of l.givens) l.depth) l.ascending l.n [] (drop 2 l.w) 2 ≡ group_end (value_length (size_of l.givens) l.depth) l.ascending (l.n - l._i) (take (l.at - l.last) (drop l.last l.w)) (drop l.at l.w) l.at)

@@ -13,15 +13,15 @@ returns-then-n-gt-ELEMENTS c = c.over.ensures ∙ elements_over _ _ c.if-n-gt-EL
 
 pub loop-k-init : goal.loop-k-init
 unfolding elements_from encodes
-loop-k-init c = (omega arith, c.hold-v.ensures)
+loop-k-init c = c.hold-v.ensures
 
 pub loop-k-preserved : goal.loop-k-preserved
 loop-k-preserved c =
     let a = c.args in
-    (omega arith, c.append-v.ensures _ c.loop-k.invariant.1 ∙ ap keep (elements_more a.g a.n c.loop-k.k))
+    c.append-v.ensures _ c.loop-k.invariant ∙ ap keep (elements_more a.g a.n c.loop-k.k)
 
 pub returns : goal.returns
 returns c =
     let a = c.args in
     let e : c.loop-k.k ≡ a.n = omega arith in
-    c.loop-k.invariant.1 ∙ ap (λ (x : ℕ). keep (3 ∷ a.n ∷ encodes (elements_from a.g 0 x))) e ∙ ap keep (sym (elements_words a.g a.n))
+    c.loop-k.invariant ∙ ap (λ (x : ℕ). keep (3 ∷ a.n ∷ encodes (elements_from a.g 0 x))) e ∙ ap keep (sym (elements_words a.g a.n))

@@ -1,7 +1,6 @@
 use mathlib.Core.Path.{sym, ◌∙◌}
 use Prim.Native.Nat.{◌+◌, ◌≤◌}
 use native.Mathlib.Omega.{arith}
-use native.Mathlib.Nat.{sub-zero}
 use lib.ListN.{length, drop, length-drop}
 use Rattle.values.specs.TypeWords.{by_former, type_length}
 use Rattle.values_forms.proofs.TypeSpans.{former_bounded, type_none, type_level, types_go, types_done}
@@ -29,32 +28,16 @@ type_length-returns-in-Group t c =
     let s = c.args in
     (sym (type_level s.depth s.w.now c.if-depth-eq0.false c.former_of-f.result c.former_of-f.ensures ∙ rw (c.in-Group.is, ← c.types_end.ensures) (sym c.clip-in-Group.ensures.0)), c.clip-in-Group.ensures.1)
 
-pub types_end-loop-i-init : goal.types_end-loop-i-init
-types_end-loop-i-init t c = (omega arith, omega (arith, c.requires), rw sub-zero)
-
-pub types_end-overflow_add-at : goal.types_end-overflow_add-at
-types_end-overflow_add-at t c = omega (arith, c.requires, c.well_formed.0)
-
-pub types_end-type_length-at-requires : goal.types_end-type_length-at-requires
-types_end-type_length-at-requires t c = (omega (arith, c.decreases), tt)
-
-pub types_end-overflow_add-at-in-loop-i : goal.types_end-overflow_add-at-in-loop-i
-types_end-overflow_add-at-in-loop-i t c =
-    let s = c.args in
-    let k : c.type_length-at.result ≤ length (drop (c.loop-i.at + s.skip) s.w.now) = rw c.from.ensures at c.type_length-at.ensures.1 in
-    omega (arith, length-drop (c.loop-i.at + s.skip) s.w.now, c.requires, c.well_formed.0)
-
 pub types_end-loop-i-preserved : goal.types_end-loop-i-preserved
 types_end-loop-i-preserved t c =
     let s = c.args in
     let f = c.from.ensures in
     let k : c.type_length-at.result ≤ length (drop (c.loop-i.at + s.skip) s.w.now) = rw f at c.type_length-at.ensures.1 in (
-      omega arith,
       omega (arith, length-drop (c.loop-i.at + s.skip) s.w.now, c.requires),
-      c.loop-i.invariant.2 ∙ types_go (type_length s.depth) s.skip s.w.now s.n c.loop-i.i c.loop-i.at c.loop-i-test.true c.type_length-at.result (rw f at c.type_length-at.ensures.0),
+      c.loop-i.invariant.1 ∙ types_go (type_length s.depth) s.skip s.w.now s.n c.loop-i._i c.loop-i.at c.loop-i-test.true c.type_length-at.result (rw f at c.type_length-at.ensures.0),
     )
 
 pub types_end-returns : goal.types_end-returns
 types_end-returns t c =
     let s = c.args in
-    types_done (type_length s.depth) s.skip s.w.now s.n c.loop-i.i c.loop-i.at c.loop-i-test.false ∙ sym c.loop-i.invariant.2
+    types_done (type_length s.depth) s.skip s.w.now s.n c.loop-i._i c.loop-i.at c.loop-i-test.false ∙ sym c.loop-i.invariant.1

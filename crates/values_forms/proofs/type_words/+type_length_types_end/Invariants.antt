@@ -11,7 +11,4 @@ abbrev pub decreases-types_end : goal.decreases-types_end
 decreases-types_end l = 2 * l.depth + 1
 
 abbrev pub invariant-types_end-loop-i : goal.invariant-types_end-loop-i
-invariant-types_end-loop-i l = (l.i ≤ l.n) × (l.at ≤ length l.w + 2 + l.i) × (types_end (type_length l.depth) l.skip l.n l.w l.start ≡ types_end (type_length l.depth) l.skip (l.n - l.i) l.w l.at)
-
-abbrev pub decreases-types_end-loop-i : goal.decreases-types_end-loop-i
-decreases-types_end-loop-i l = l.n - l.i
+invariant-types_end-loop-i l = (l.at ≤ length l.w + 2 + l._i) × (types_end (type_length l.depth) l.skip l.n l.w l.start ≡ types_end (type_length l.depth) l.skip (l.n - l._i) l.w l.at)

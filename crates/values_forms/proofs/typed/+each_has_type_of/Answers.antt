@@ -1,23 +1,10 @@
 use mathlib.Core.Path.{sym, ◌∙◌}
 use Prim.Native.Nat.{◌≤◌}
 use native.Mathlib.Omega.{arith}
-use native.Mathlib.Nat.{sub-zero}
 use lib.ListN.{length, drop, length-drop}
 use Rattle.values.specs.Typed.{by_test, has_type}
 use Rattle.values_forms.proofs.Testing.{test_counted, typed_none, typed_level, each_stop, each_go, each_done}
 use Rattle.values_forms.proofs.typed.+each_has_type_of.Goals as goal
-
-pub each_has-loop-i-init : goal.each_has-loop-i-init
-each_has-loop-i-init t c = (omega arith, omega arith, omega arith, rw sub-zero)
-
-pub each_has-type_of-requires : goal.each_has-type_of-requires
-each_has-type_of-requires t c = (omega (arith, c.decreases), tt)
-
-pub each_has-overflow_add-here : goal.each_has-overflow_add-here
-each_has-overflow_add-here t c =
-    let s = c.args in
-    let k : c.type_step-here.result ≤ length (drop c.loop-i.here s.t.now) = rw c.from-u.ensures at c.type_step-here.ensures.1 in
-    omega (arith, length-drop c.loop-i.here s.t.now, c.well_formed.0)
 
 pub each_has-loop-i-preserved : goal.each_has-loop-i-preserved
 each_has-loop-i-preserved t c =
@@ -25,23 +12,22 @@ each_has-loop-i-preserved t c =
     let e = c.from-u.ensures in
     let f = c.from-v.ensures in
     let k : c.type_step-here.result ≤ length (drop c.loop-i.here s.t.now) = rw e at c.type_step-here.ensures.1 in (
-      omega arith,
       omega (arith, length-drop c.loop-i.here s.t.now),
       omega arith,
-      c.loop-i.invariant.3 ∙ each_go (has_type s.depth) s.own s.t.now s.w.now s.n c.loop-i.i c.loop-i.here c.loop-i.at c.loop-i-test.true
-          (rw (← e, ← f) (sym c.type_of.ensures ∙ c.if-type_of.true)) c.type_step-here.result c.span-at.result (rw e at c.type_step-here.ensures.0) (rw f at c.span-at.ensures.0),
+      c.loop-i.invariant.2 ∙ each_go (has_type s.depth) s.own s.t.now s.w.now s.n c.loop-i._i c.loop-i.here c.loop-i.at c.loop-i-test.true
+          (rw (← e, ← f) (sym c.type_of.ensures ∙ c.if-not-type_of.false)) c.type_step-here.result c.span-at.result (rw e at c.type_step-here.ensures.0) (rw f at c.span-at.ensures.0),
     )
 
-pub each_has-returns-else-type_of : goal.each_has-returns-else-type_of
-each_has-returns-else-type_of t c =
+pub each_has-returns-then-not-type_of : goal.each_has-returns-then-not-type_of
+each_has-returns-then-not-type_of t c =
     let s = c.args in
-    each_stop (has_type s.depth) s.own s.t.now s.w.now s.n c.loop-i.i c.loop-i.here c.loop-i.at c.loop-i-test.true
-    (rw (← c.from-u.ensures, ← c.from-v.ensures) (sym c.type_of.ensures ∙ c.if-type_of.false)) ∙ sym c.loop-i.invariant.3
+    each_stop (has_type s.depth) s.own s.t.now s.w.now s.n c.loop-i._i c.loop-i.here c.loop-i.at c.loop-i-test.true
+    (rw (← c.from-u.ensures, ← c.from-v.ensures) (sym c.type_of.ensures ∙ c.if-not-type_of.true)) ∙ sym c.loop-i.invariant.2
 
 pub each_has-returns : goal.each_has-returns
 each_has-returns t c =
     let s = c.args in
-    each_done (has_type s.depth) s.own s.t.now s.w.now s.n c.loop-i.i c.loop-i.here c.loop-i.at c.loop-i-test.false ∙ sym c.loop-i.invariant.3
+    each_done (has_type s.depth) s.own s.t.now s.w.now s.n c.loop-i._i c.loop-i.here c.loop-i.at c.loop-i-test.false ∙ sym c.loop-i.invariant.2
 
 pub type_of-returns-then-depth-eq0 : goal.type_of-returns-then-depth-eq0
 type_of-returns-then-depth-eq0 t c =

@@ -11,7 +11,4 @@ abbrev pub decreases-type_of : goal.decreases-type_of
 decreases-type_of l = 2 * l.depth
 
 abbrev pub invariant-each_has-loop-i : goal.invariant-each_has-loop-i
-invariant-each_has-loop-i l = (l.i ≤ l.n) × (l.here ≤ length l.t) × (l.at ≤ 2 + 96 * l.i) × (each (has_type l.depth) l.own l.n l.t (drop 2 l.w) ≡ each (has_type l.depth) l.own (l.n - l.i) (drop l.here l.t) (drop l.at l.w))
-
-abbrev pub decreases-each_has-loop-i : goal.decreases-each_has-loop-i
-decreases-each_has-loop-i l = l.n - l.i
+invariant-each_has-loop-i l = (l.here ≤ length l.t) × (l.at ≤ 2 + 96 * l._i) × (each (has_type l.depth) l.own l.n l.t (drop 2 l.w) ≡ each (has_type l.depth) l.own (l.n - l._i) (drop l.here l.t) (drop l.at l.w))

@@ -1,4 +1,0 @@
-use Rattle.checker_includes.proofs.filling.+rows_agree.Given as goal
-
-abbrev pub decreases-rows_agree : goal.decreases-rows_agree
-decreases-rows_agree l = l.k
