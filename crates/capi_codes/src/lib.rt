@@ -41,6 +41,7 @@ pub fn run_code(finding: Result<Ending, Refusal>) -> u64
 }
 
 // The finding of a check that a number codes.
+#[tactic(auto, unfolding(crate::specs::Code::code_finding))]
 pub fn finding_of(code: u64) -> Result<(), Refusal>
     ensures { result ≡ code_finding code }
 {

@@ -20,7 +20,7 @@ use Rattle.reader_rules.specs.Refusals.{Finding, Accepted, Refused}
 use Rattle.checker_dictionary.specs.Holds.{Holds}
 use Rattle.types_instances.proofs.CleanLaws.{clean_lower}
 use Rattle.checker_lookup.specs.Scoped.{DictionaryHeld}
-use Rattle.checker_extension.specs.Entering.{IsParagraph, Grown, Entered}
+use Rattle.checker_extension.specs.Entering.{Grown, Entered}
 use Rattle.checker.specs.Answering.{ParagraphsAsk, Answered}
 use Rattle.checker.proofs.AnsweringLaws.{told_refused}
 use Rattle.checker.proofs.DocumentWords.{words_few}
@@ -79,9 +79,6 @@ node_at_lem doc n i k e q = q ∙ ap (λ (j : ℕ). operand_at doc j i) e
 
 -- What is asked before a paragraph, and before the next.
 module _ (doc s d w : List ℕ) (i m : ℕ) (A : ParagraphsAsk doc s d w i m) (some : m ≡ 0 → ⊥) where
-  pub from_listed : (k : ℕ) → k ≡ operand_at doc (count doc) i → IsParagraph doc k
-  from_listed k e = let a = A.ends in record { read = A.read; place = i; some = A.some; most = omega arith; is = e }
-
   pub from_small : i + 1 ≤ document_words
   from_small = let a = A.ends in let b = words_few doc A.read in omega arith
 

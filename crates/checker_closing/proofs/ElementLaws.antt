@@ -1,32 +1,18 @@
 -- The type of a set's elements, from what the called functions tell.
-use mathlib.Core.Path.{◌≡◌, refl, subst}
-use mathlib.Core.Bool.{Bool, true, false}
+use mathlib.Core.Path.{◌≡◌, subst}
+use mathlib.Core.Bool.{Bool, true}
 use mathlib.Core.List.{List}
 use Prim.Native.Nat.{ℕ, ◌+◌}
 use Rattle.checker_pieces.specs.Building.{Powered}
 use Rattle.checker_pieces.specs.Closed.{Closed}
-use Rattle.checker_includes.specs.Storing.{StoreAsk}
 use Rattle.std.specs.Prelude.{Result, Ok, Err}
 use Rattle.checker_pieces.specs.Answering.{Answers}
 use Rattle.checker_closing.specs.declared.elements.Element.{Element}
-use Rattle.checker_closing.specs.Elements.{TypeKept, ClosedAsk, ClosedTold, several, one, ElementAsk, ElementTold, no_power, power}
+use Rattle.checker_closing.specs.Elements.{TypeKept, ClosedTold, one, ElementTold, power}
 
 module _ {s s₁ d w : List ℕ} {n c at free : ℕ} {b : Bool} (Z : Closed s s₁ d n b) where
-  pub closed_several : b ≡ false → {size end : ℕ} → ClosedTold s s₁ d w w n c at free 34 size end
-  closed_several nay = several refl refl (subst (Closed s s₁ d n) nay Z)
-
-  pub closed_storing : b ≡ true → {end : ℕ} → ClosedAsk s d w n c at end free → StoreAsk s₁ d w n c at end free
-  closed_storing y A = A.storing s₁ (subst (Closed s s₁ d n) y Z)
-
   pub closed_one : b ≡ true → {s₂ w₂ : List ℕ} {number size end : ℕ} → TypeKept s₁ s₂ d w w₂ n c at free number size end → ClosedTold s s₂ d w w₂ n c at free number size end
   closed_one y K = one s₁ (subst (Closed s s₁ d n) y Z) K
-
-module _ {s s₁ d w : List ℕ} {n top c at free found : ℕ} (P : Powered s s₁ d n top c found) where
-  pub element_no_power : (found ≡ 0 → ⊥) → {size end : ℕ} → ElementTold s s₁ d w w n top c at free found size end
-  element_no_power ne = no_power ne refl P
-
-  pub element_closing : found ≡ 0 → {end : ℕ} → ElementAsk s d w n top c at end free → ClosedAsk s₁ d w (n + 2) n at end free
-  element_closing y A = A.closing s₁ (subst (Powered s s₁ d n top c) y P)
 
 -- The result of closing it.
 module _ {s s₁ d : List ℕ} {n top c found : ℕ} (P : Powered s s₁ d n top c found) (y : found ≡ 0) (w s₂ w₂ : List ℕ) (at free : ℕ) where

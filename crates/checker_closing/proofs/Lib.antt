@@ -1,5 +1,4 @@
 pub mod LeafLaws
-pub mod IncludedLaws
 pub mod SchemaLaws
 pub mod ElementLaws
 pub mod DeclarationLaws

@@ -36,6 +36,7 @@ pub fn related(
 
 // 36 of a Decl with the part p: its identifiers beside the m rows at base. Its type is of this size, at most 33, and stands at `at`, or one over size 32
 // in its stead.
+#[tactic(auto, using(crate::proofs::LeafLaws::fits_small, crate::proofs::LeafLaws::fits_large))]
 pub fn declared_fits(
     a: &[u32],
     d: &[u32],
@@ -56,6 +57,7 @@ pub fn declared_fits(
 }
 
 // 36, second case, of a Decl with the part p in an Axiom's Text: its identifiers are not global yet.
+#[tactic(auto, using(crate::proofs::LeafLaws::new_global, crate::proofs::LeafLaws::new_local))]
 pub fn new_if(global: bool, d: &[u32], w: &[u32], p: &[u32]) -> bool
     ensures { NewIfTold global d.now w.now (drop 2 p.now) result }
 {
@@ -66,6 +68,7 @@ pub fn new_if(global: bool, d: &[u32], w: &[u32], p: &[u32]) -> bool
 }
 
 // The same of the k rows at `source` that an Include brings.
+#[tactic(auto, using(crate::proofs::LeafLaws::new_global, crate::proofs::LeafLaws::new_local))]
 pub fn rows_new_if(global: bool, d: &[u32], w: &[u32], source: usize, k: usize) -> bool
     requires { source + 2 * k ≤ length w.now }
     ensures { NewIfTold global d.now w.now (identifiers_of (rows w.now source k)) result }

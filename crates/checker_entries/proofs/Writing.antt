@@ -19,7 +19,7 @@ use Rattle.types_solver.specs.Written.{Wrote, Copied}
 use Rattle.checker_signatures.specs.Rows.{rows, identifiers_of}
 use Rattle.checker_signatures.proofs.RowLaws.{rows_kept, get_d_below, rows_length_lem, set_sets}
 use Rattle.checker_dictionary.specs.Waiting.{waiting}
-use Rattle.checker_includes.proofs.RowSteps.{from_first, from_next}
+use Rattle.checker_includes.proofs.RowSteps.{from_next}
 use Rattle.checker_entries.specs.Entries.{TypesAt, AllSmall, name_entries, given_entries, entry_waits, schema_of, TypeAsk, TableAsk}
 
 -- SETS.
@@ -64,18 +64,6 @@ head_wrote ws w w₁ w₂ at e len class name count A l h =
           ∙ ap (λ (k : ℕ). sets w at (k ∷ class ∷ name ∷ count ∷ ws)) z;
       end = omega arith;
     }
-
--- Its four words.
-pub four_words : (w w₁ w₂ w₃ w₄ : List ℕ) (at len class name count : ℕ) → w₁ ≡ set w at len → w₂ ≡ set w₁ (at + 1) class → w₃ ≡ set w₂ (at + 2) name → w₄ ≡ set w₃ (at + 3) count →
-    w₄ ≡ sets w at (len ∷ class ∷ name ∷ count ∷ [])
-four_words w w₁ w₂ w₃ w₄ at len class name count h₁ h₂ h₃ h₄ =
-    let p : at + 1 ≡ suc at = omega arith in
-    let q : at + 2 ≡ suc (suc at) = omega arith in
-    let r : at + 3 ≡ suc (suc (suc at)) = omega arith in
-    let k₂ = h₂ ∙ ap (λ (k : ℕ). set w₁ k class) p in
-    let k₃ = h₃ ∙ ap (λ (k : ℕ). set w₂ k name) q in
-    let k₄ = h₄ ∙ ap (λ (k : ℕ). set w₃ k count) r in
-    k₄ ∙ ap (λ (z : List ℕ). set z (suc (suc (suc at))) count) (k₃ ∙ ap (λ (z : List ℕ). set z (suc (suc at)) name) (k₂ ∙ ap (λ (z : List ℕ). set z (suc at) class) h₁))
 
 -- SMALL TYPES have few words.
 pub small_words : (g : Ty) → size g ≤ 32 → length (words g) ≤ 95
@@ -248,12 +236,6 @@ pub row_asked : (s d w : List ℕ) (base m at j : ℕ) → j < m → TableAsk s 
 row_asked s d w base m at j l A = first_asked s d w (base + 2 * j) (m - j) at (λ e. omega arith) A
 
 module _ (s d w : List ℕ) (base m at : ℕ) where
-  pub naming_start : TableAsk s d w base m at → Naming s d w base m at w at (base + 2 * 0) (m - 0)
-  naming_start A = from_first (Naming s d w base m at w at) base m (A, λ w₂ e N. N)
-
-  pub parting_start : TableAsk s d w base m at → Parting s d w base m at w at (base + 2 * 0) (m - 0)
-  parting_start A = from_first (Parting s d w base m at w at) base m (A, λ w₂ e N. N)
-
   module _ (w' : List ℕ) (end j : ℕ) where
     pub naming_end : m ≤ j → Naming s d w base m at w' end (base + 2 * j) (m - j) → (gs : Tys) → TypesAt (heap s d) (rows w base m) gs → Wrote w w' at end (waiting (name_entries (rows w base m) gs))
     naming_end l I = I.1 w' end (names_none (heap s d) w' (base + 2 * j) (m - j) end (omega arith))

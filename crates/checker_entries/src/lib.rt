@@ -67,6 +67,7 @@ pub fn given_entries(w: &mut [u32], p: &[u32], j: usize, at: usize) -> usize
 }
 
 // The entry of the identifier id, which has the type at p: where it ends.
+#[tactic(auto, using(crate::proofs::Writing::name_end))]
 pub fn name_entry(a: &[u32], d: &[u32], w: &mut [u32], id: usize, p: usize, at: usize) -> usize
     requires { (TypeAsk a.now d.now p) × (id < 2 ^ 32) × (at < 2 ^ 39) }
     ensures { (g : Ty) → Reads (heap a.now d.now) p g → Wrote w.old w.new at result (entry_waits (name_entry id 0 g)) }

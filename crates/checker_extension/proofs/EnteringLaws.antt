@@ -23,7 +23,7 @@ use Rattle.layout.specs.Layout.{count}
 use Rattle.checker_dictionary.specs.Index.{IndexedTo, Indexed}
 use Rattle.checker_dictionary.proofs.IndexLaws.{indexed_older, count_more}
 use Rattle.checker_lookup.proofs.HeldLaws.{indexed_in}
-use Rattle.checker_dictionary.specs.Waiting.{with_entries, waiting, Waits, Waiting, AppendedAll}
+use Rattle.checker_dictionary.specs.Waiting.{with_entries, waiting, Waits, AppendedAll}
 use Rattle.checker_dictionary.proofs.Places.{size_held}
 use Rattle.checker_dictionary.proofs.WaitingLaws.{entries_grow}
 use Rattle.checker_lookup.specs.Scoped.{DictionaryHeld}
@@ -95,9 +95,6 @@ module _ (doc : List ℕ) (k : ℕ) (L : IsParagraph doc k) (s s' d w w' : List 
   }
 
   module _ (z : f ≡ 0) where
-    pub entries_wait : Waiting w' at c
-    entries_wait = let E = X.goes z R.dictionary R.recorded in record { entries = E.entries; count = E.counted; waits = E.waits }
-
     -- The dictionary with the entries has few words.
     grows_few : (D : Dictionary) (es : List Entry) → length (waiting es) ≤ max_waiting → dictionary_length (with_entries es D) ≤ dictionary_length D + max_added
     grows_few D es l = let a = entries_length es D in let b = entries_few es in omega arith

@@ -21,7 +21,6 @@ use Rattle.checker_pieces.specs.Piece.{Steady, Walked, Settled}
 use Rattle.checker_pieces.proofs.Between.{walked_skip, walked_then, equal_noted, equal_refused, refuses_first, refuses_second}
 use Rattle.types_instances.specs.Fill.{fill}
 use Rattle.types_instances.proofs.FillLaws.{fill_under}
-use Rattle.checker_merging.specs.Merging.{Rows}
 use Rattle.checker_lookup.specs.Components.{Component}
 use Rattle.checker_includes.specs.Components.{Placed, ActualTypes}
 use Rattle.checker_includes.specs.Filling.{Comparing, SameFilled, RowsAsk, AgreeAsk, OneAsk, OneTold, AgreeTold}
@@ -94,10 +93,6 @@ rows_fewer s d w source k places e A = record {
   };
 }
 
-pub first_readable : (s d w : List ℕ) (source k : ℕ) → (k ≡ 0 → ⊥) → Rows s d w source k → (p : ℕ) → p ≡ get_or w (source + 1) 0 → Readable (heap s d) p
-first_readable s d w source k e R p q =
-    subst (Readable (heap s d)) (ap (λ z. get_or w z 0) (let z : source + 2 * 0 + 1 ≡ source + 1 = omega arith in z) ∙ sym q) (R.readable 0 (omega (arith, e)))
-
 module _ (s d w : List ℕ) (base m : ℕ) (places : List ℕ) where
   pub agree_none : (source k : ℕ) → k ≡ 0 → AgreeTold s d w base m source k places true
   unfolding merge_names pairs_from Carries
@@ -155,9 +150,6 @@ module _ (s d w : List ℕ) (base m : ℕ) (places : List ℕ) where
             let W = first H U n i z v t r S A C.0 C.1 D in
             refuses_second H c (merge_names n x r) 36 n W.goes (N.stops y (H ⨾ c) U n i z x r W.steady (actuals_later s d H c U i z places A) C.2 (placed_later s d H c U r _ D))
 
-  pub one_asked : (source k : ℕ) → (k ≡ 0 → ⊥) → AgreeAsk s d w base m source k places → (p : ℕ) → p ≡ get_or w (source + 1) 0 → OneAsk s d w base m p places
-  one_asked source k e A p q = record { actuals = A.brought.actuals; type = first_readable s d w source k e A.brought.table p q; table = A.table }
-
   pub agree_fewer : (source k : ℕ) → (k ≡ 0 → ⊥) → AgreeAsk s d w base m source k places → AgreeAsk s d w base m (source + 2) (k - 1) places
   agree_fewer source k e A = record { brought = rows_fewer s d w source k places e A.brought; table = A.table }
 
@@ -198,3 +190,5 @@ module _ (s d w : List ℕ) (base m : ℕ) (places : List ℕ) (source k : ℕ) 
 
   pub agreeing_end : (j : ℕ) → k ≤ j → Agreeing s d w base m places source k (source + 2 * j) (k - j) → AgreeTold s d w base m source k places true
   agreeing_end j l I = I.1 true (agree_none s d w base m places (source + 2 * j) (k - j) (omega arith))
+
+pub ruleset one_cases = (one_found, one_absent, comparing_of)

@@ -1,9 +1,9 @@
 -- One row of what an Include brings gets its place.
 use mathlib.Core.Path.{◌≡◌, sym, ap, subst, ◌∙◌}
 use mathlib.Core.List.{List}
-use mathlib.Core.Logic.{inl, inr}
+use mathlib.Core.Logic.{inr}
 use mathlib.Core.Option.{none as nothing}
-use Prim.Native.Nat.{ℕ, ◌+◌, ◌*◌, ◌≤◌, ◌<◌}
+use Prim.Native.Nat.{ℕ, ◌+◌, ◌≤◌}
 use native.Mathlib.Omega.{arith}
 use lib.ListN.{length, get_or, set, length-set}
 use lib.Seq.{length-sets, get_or-set_same, get_or-set_other}
@@ -22,28 +22,13 @@ use Rattle.checker_includes.specs.Keeping.{Written, RowAsk, RowKept}
 use Rattle.checker_includes.proofs.NewRowLaws.{one_new}
 
 module _ (s d w : List ℕ) (base m r : ℕ) (places : List ℕ) (own e : ℕ) (A : RowAsk s d w base m r places own e) where
-  -- An identifier of the table.
-  pub row_found : (i f : ℕ) → i ≡ get_or w r 0 → Finds w base m i f → f < m → (p : ℕ) → p ≡ get_or w (base + 2 * f + 1) 0 → (w' : List ℕ) → w' ≡ set w (r + 1) p →
-      RowKept s d w w' base m r places own e e
-  row_found i f q F l p h w' g =
-      let x = A.row in
-      let y = A.room in
-      subst (λ z. RowKept s d w z base m r places own e e) (sym g)
-      (record {
-        size = length-set w (r + 1) p;
-        words = λ j b n. get_or-set_other w (r + 1) j p 0 n;
-        more = omega arith;
-        short = omega arith;
-        kept = inl (record { row = f; finds = subst (λ z. Finds w base m z f) q F; among = l; place = get_or-set_same w (r + 1) p 0 (omega arith) ∙ h });
-      })
-
   abbrev c : Ty
   c = A.readable.type
 
   few : (g : Ty) (hs : Tys) → Reads (heap s d) (get_or w (r + 1) 0) g → Row (heap s d) places hs → length (words (fill hs g)) ≤ 95
   few g hs R S = let a = A.small g hs R S in let b = words_few (fill hs g) in omega arith
 
-  -- Another one.
+  -- An identifier that the table has not.
   module _ (p : ℕ) (h : p ≡ get_or w (r + 1) 0) where
     pub row_asked : FillWriting s d p places e
     row_asked =

@@ -25,28 +25,12 @@ use Rattle.types_instances.proofs.Rows.{filled_formed}
 use Rattle.types_instances.proofs.Moving.{below_reads}
 use Rattle.checker_includes.specs.Components.{Placed, Fills, AllStandFor}
 use Rattle.checker_includes.specs.Storing.{KeepAsk, RowsKept}
-use Rattle.checker_includes.specs.Keeping.{Written, RowFound, Fresh, AllAsk, AllKept, MoveAsk, Moved}
+use Rattle.checker_includes.specs.Keeping.{Written, RowFound, Fresh, AllKept, MoveAsk, Moved}
 use Rattle.checker_includes.proofs.StandLaws.{stands_back, fill_alike}
 use Rattle.checker_includes.proofs.StoreLaws.{moved_reads}
 use Rattle.checker_includes.proofs.NewRowLaws.{rows_few}
 
 module _ (s d w : List ℕ) (base m source k : ℕ) (places : List ℕ) (at end free : ℕ) (A : KeepAsk s d w base m source k places at end free) where
-  pub all_asked : AllAsk s d w base m source k places at free
-  all_asked =
-      let r = A.room in
-      let b = A.before in
-      record {
-        actuals = A.actuals;
-        rows = A.rows;
-        sizes = A.sizes;
-        many = A.many;
-        room = omega arith;
-        scratch = A.scratch;
-        near = A.near;
-        beside = A.beside;
-        apart = A.apart;
-      }
-
   module _ (w' : List ℕ) (e : ℕ) (K : AllKept s d w w' base m source k places at free e) where
     pub move_asked : MoveAsk s w' at end free (e - free)
     move_asked =

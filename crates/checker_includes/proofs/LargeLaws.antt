@@ -55,3 +55,5 @@ put_end a₀ a at j l m c =
     let e : 32 ≡ j = omega arith in
     let f : 32 - j ≡ 0 = omega arith in
     ap (λ k. set a (at + k) 1) e ∙ sym (ap (sets a (at + j)) zero_words) ∙ ap (λ k. sets a (at + j) (words (powers k))) (sym f) ∙ sym c
+
+pub ruleset put_turns = (put_start, put_step, put_end)

@@ -1,22 +1,27 @@
 -- A type with actuals for its parameters beside another type, part by part.
 use mathlib.Core.Path.{◌≡◌, refl, sym, ap, ap₂, subst, ◌∙◌}
 use mathlib.Core.List.{List, [], ◌∷◌, ◌++◌}
-use Prim.Native.Nat.{ℕ, zero, suc, ◌+◌, ◌≤◌, ◌<◌}
+use mathlib.Core.Bool.{false}
+use Prim.Native.Nat.{ℕ, zero, suc, ◌+◌, ◌^◌, ◌≤◌, ◌<◌}
 use native.Mathlib.Omega.{arith}
 use lib.ListN.{length, get_or, length-append, get_or-append}
 use Rattle.types_rules.specs.Former.{Former, int, given, parameter, power, product, binding, tag, identifiers, former_of}
 use Rattle.types_rules.specs.Types.{Ty, Tys, node, tnil, tcons}
 use Rattle.types_rules.specs.Formed.{part_count_type, FormedType, FormedTypes, Arity}
 use Rattle.types_rules.specs.Words.{second, words, part_words}
+use Rattle.types_rules.proofs.Terms.{bool_no}
 use Rattle.types_rules.proofs.Words.{words_one}
-use Rattle.types_cells.specs.Settled.{Reads, lead_words, name_words, parts_of}
+use Rattle.types_cells.specs.Calls.{Tells}
+use Rattle.types_cells.specs.Settled.{heap, Reads, Reading, lead_words, name_words, parts_of}
 use Rattle.types_solver.specs.Written.{lead}
 use Rattle.types_cells.specs.Parts.{Names, Rest}
-use Rattle.types_cells.proofs.Reading.{rest_start, Part, part_next, parts_are, tag_there, second_at, word_in, place_low}
+use Rattle.types_cells.proofs.Reading.{heap_length, rest_start, Part, part_next, parts_are, tag_there, second_at, word_in, place_low}
 use Rattle.types_instances.specs.Fill.{fill, fills}
+use Rattle.types_instances.specs.Filled.{Row}
 use Rattle.types_instances.proofs.FillLaws.{fills_count, fill_node}
 use Rattle.types_instances.proofs.FillWords.{lead_length}
 use Rattle.types_instances.proofs.Rows.{parameter_words}
+use Rattle.checker_includes.specs.Filling.{Comparing}
 
 -- A former, by its words and its identifiers.
 whole : (h : Former) (n a : ℕ) → ((v : ℕ) → second h n ≡ v ∷ [] → a ≡ v) → former_of (tag h) a (identifiers h) ≡ h
@@ -215,6 +220,34 @@ match_c H hs w at to n j g k l (tcons x gs) e R a m (tcons y ks) f S b enough ne
 
 pub match_step : (H : List ℕ) (hs : Tys) (w at to n j : ℕ) (g k : Ty) → Matching H hs w at to n j g k → j < n → MatchStep H hs w at to n j g k
 match_step H hs w at to n j g k M lt = match_c H hs w at to n j g k M.l M.gs M.e M.rest M.left M.m M.ks M.f M.others M.right M.enough M.needed lt
+
+-- The parts that a turn of the loop compares.
+module _ (s d places : List ℕ) (p q w at to n j : ℕ) (P : Comparing s d p places q)
+    (I : (g k : Ty) (hs : Tys) → Reads (heap s d) p g → Reads (heap s d) q k → Row (heap s d) places hs → Matching (heap s d) hs w at to n j g k) (l : j < n) where
+  parts : MatchStep (heap s d) P.actuals.types w at to n j P.left.type P.right.type
+  parts = match_step _ _ _ _ _ _ _ _ _ (I _ _ _ P.left.reads P.right.reads P.actuals.stand) l
+
+  pub part_low : at + w < length (heap s d)
+  part_low = parts.low
+
+  pub part_near : at + w < 2 ^ 40
+  part_near = let h = heap_length s d P.actuals.areas.size in let f = P.actuals.areas.few in let x = part_low in omega arith
+
+  pub other_near : to + w < 2 ^ 40
+  other_near = let h = heap_length s d P.actuals.areas.size in let f = P.actuals.areas.few in let x = parts.low_there in omega arith
+
+  pub part_reading : Reading s d (at + w)
+  part_reading = record { areas = P.actuals.areas; readable = record { type = parts.part; reads = parts.reads } }
+
+  pub other_reading : Reading s d (to + w)
+  other_reading = record { areas = P.actuals.areas; readable = record { type = parts.other; reads = parts.there } }
+
+  pub part_comparing : Comparing s d (at + w) places (to + w)
+  part_comparing = record { actuals = P.actuals; left = part_reading.readable; right = other_reading.readable }
+
+-- A failed test answers no.
+pub answers_no : {A : Type 0} → (A → ⊥) → Tells false A
+answers_no f = record { holds = λ z. absurd (bool_no false z refl); fails = λ z. f }
 
 no_names_lem : (w : ℕ) (l : List ℕ) → Names w l tnil → l ≡ []
 no_names_lem zero l N = N

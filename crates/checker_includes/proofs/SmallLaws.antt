@@ -20,15 +20,15 @@ use Rattle.types_solver.proofs.Marking.{cap_cases}
 use Rattle.checker_pieces.specs.Piece.{Steady, Walked}
 use Rattle.checker_pieces.proofs.Between.{walked_skip, walked_then, small_noted, small_refused, refuses_first, refuses_second}
 use Rattle.types_instances.specs.Fill.{fill}
-use Rattle.types_instances.specs.Filled.{Row, Filling, FilledSize}
+use Rattle.types_instances.specs.Filled.{Row, FilledSize}
 use Rattle.types_instances.proofs.FillSizes.{size_few}
 use Rattle.checker_lookup.specs.Components.{Component}
 use Rattle.checker_includes.specs.Components.{ActualTypes}
 use Rattle.checker_includes.specs.Filling.{RowsAsk, SmallTold}
 use Rattle.checker_includes.proofs.StandLaws.{fill_alike, over_alike}
 use Rattle.checker_includes.proofs.LaterLaws.{actuals_later}
-use Rattle.checker_includes.proofs.RowSteps.{from_first, from_next}
-use Rattle.checker_includes.proofs.AgreeLaws.{None, component_settled, first_readable, rows_fewer}
+use Rattle.checker_includes.proofs.RowSteps.{from_next}
+use Rattle.checker_includes.proofs.AgreeLaws.{None, component_settled, rows_fewer}
 
 size_over : (g : Ty) (v : ℕ) → v ≡ cap (size g) → 32 < v → 32 < size g
 size_over g v e l = cap_cases (size g) _ (λ m q. omega arith) (λ m q. omega arith)
@@ -100,9 +100,6 @@ module _ (s d w : List ℕ) (places : List ℕ) where
             let W = one_small s d _ v places F H U n i z t S A C.1 l in
             refuses_second H (small n t) (small_types n x) 38 n W.goes (N.stops y (H ⨾ small n t) U n i z x W.steady (actuals_later s d H (small n t) U i z places A) C.2)
 
-  pub filling_of : (source k : ℕ) → (k ≡ 0 → ⊥) → RowsAsk s d w source k places → (p : ℕ) → p ≡ get_or w (source + 1) 0 → Filling s d p places
-  filling_of source k e A p q = let R = first_readable s d w source k e A.table p q in record { actuals = A.actuals; type = R.type; reads = R.reads }
-
   module _ (source k : ℕ) (some : k ≡ 0 → ⊥) (p : ℕ) (ep : p ≡ get_or w (source + 1) 0) (v : ℕ) (F : FilledSize s d p places v) where
     less : k ≡ suc (k - 1)
     less = omega (arith, some)
@@ -121,15 +118,9 @@ abbrev pub AllSoFar : List ℕ → List ℕ → List ℕ → List ℕ → ℕ �
 AllSoFar s d w places source k source' k' = RowsAsk s d w source' k' places × ((b : Bool) → SmallTold s d w source' k' places b → SmallTold s d w source k places b)
 
 module _ (s d w places : List ℕ) (source k : ℕ) where
-  pub so_far_start : RowsAsk s d w source k places → AllSoFar s d w places source k (source + 2 * 0) (k - 0)
-  so_far_start A = from_first (AllSoFar s d w places source k) source k (A, λ b N. N)
-
   module _ (j : ℕ) (l : j < k) (I : AllSoFar s d w places source k (source + 2 * j) (k - j)) (p : ℕ) (ep : p ≡ get_or w (source + 2 * j + 1) 0) where
     some : k - j ≡ 0 → ⊥
     some e = omega arith
-
-    pub so_far_asked : Filling s d p places
-    so_far_asked = filling_of s d w places (source + 2 * j) (k - j) some I.0 p ep
 
     module _ (v : ℕ) (F : FilledSize s d p places v) where
       pub so_far_stop : 32 < v → SmallTold s d w source k places false

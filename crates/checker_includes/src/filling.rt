@@ -69,6 +69,7 @@ pub fn same_filled(a: &[u32], d: &[u32], p: usize, row: &[u32], q: usize) -> boo
 }
 
 // The type at p, with the actuals for its parameters, is that of the row with this identifier among the m at base, if there is one.
+#[tactic(auto, using(crate::proofs::AgreeLaws::one_cases))]
 fn agrees(
     a: &[u32],
     d: &[u32],

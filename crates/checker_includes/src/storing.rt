@@ -22,10 +22,12 @@ const POWER: u32 = type_tags::POWER as u32;
 const INTEGERS: u32 = type_tags::INTEGERS as u32;
 
 // The words of the stand-in.
+#[tactic(auto, using(crate::proofs::LargeLaws::put_turns))]
 fn put_large(a: &mut [u32], at: usize)
     requires { at < 2 ^ 32 }
     ensures { a.new ≡ sets a.old at (types.words large) }
 {
+    // An index: a place past the end is passed over, which fill would not do.
     for j in 0..LARGE_POWERS {
         store(a, at + j, POWER);
     }
@@ -45,6 +47,7 @@ fn shown_words(a: &[u32], d: &[u32], w: &mut [u32], n: usize, c: usize, free: us
 }
 
 // The k words of w at `free`, moved to `at`; what else stood there, up to `end`, is wiped. Where the area is clean then.
+#[tactic(auto, using(crate::proofs::MoveLaws::moved_some, crate::proofs::MoveLaws::moved_none))]
 fn move_words(a: &mut [u32], w: &[u32], at: usize, end: usize, free: usize, k: usize) -> usize
     requires { MoveAsk a.old w.now at end free k }
     ensures { Moved a.old a.new w.now at free k result }
@@ -118,6 +121,7 @@ fn keep_row(
 }
 
 // The k rows at source, one after another; the words of their types go to those of w from `free` on, and are to stand at `at`. Where they end.
+#[tactic(auto, using(crate::proofs::KeepAll::all_start, crate::proofs::KeepAll::all_short))]
 fn keep_all(
     a: &[u32],
     d: &[u32],

@@ -3,7 +3,6 @@ use mathlib.Core.Path.{◌≡◌, refl, ◌∙◌}
 use mathlib.Core.List.{List}
 use Prim.Native.Nat.{ℕ, ◌+◌, ◌≤◌}
 use native.Mathlib.Omega.{arith}
-use lib.ListN.{length}
 use Rattle.reader_rules.specs.Tree.{Exprs}
 use Rattle.types_rules.specs.Instance.{instance}
 use Rattle.checker_rules.specs.Conditions.{typed, types_of, are_powers}
@@ -12,7 +11,7 @@ use Rattle.checker_rules.specs.Unknowns.{row}
 use Rattle.types_cells.specs.Store.{run}
 use Rattle.checker_pieces.specs.Stage.{Ghost, Stands, Unvisited, node_cells}
 use Rattle.checker_pieces.specs.Building.{Cells}
-use Rattle.checker_pieces.specs.Rows.{Powering, PowersOf, Powers}
+use Rattle.checker_pieces.specs.Rows.{PowersOf, Powers}
 use Rattle.checker_pieces.proofs.Walks.{stops_left}
 use Rattle.checker_pieces.proofs.Stages.{rule_goes, rule_stops, room_less}
 use Rattle.checker_lookup.specs.References.{InstanceAsked, InstanceOf, RecordedAt, ApplyingAt, AppliedAt}
@@ -24,19 +23,6 @@ module _ (s d : List ℕ) (n top p m : ℕ) (parts : List ℕ) (B : ApplyingAt s
 
   few : m ≤ 4
   few = D.few
-
-  pub powering : (m ≤ length parts) × Powering s d n top (run parts 0 m) m
-  powering = (
-    B.within,
-    record {
-      ghost = D.ghost;
-      stands = D.stands;
-      exprs = B.expressions;
-      cells = B.actuals;
-      few = fewer s d n top p m D;
-      room = room_less s n top (m + m) node_cells (let z = few in omega arith) D.room;
-    },
-  )
 
   module _ (s₁ : List ℕ) (number : ℕ) (P : Powers s s₁ d n top (run parts 0 m) m number) where
     pub applied_not : (number ≡ 0 → ⊥) → (cell n' top' : ℕ) → AppliedAt s s₁ d n top p m parts number cell n' top'

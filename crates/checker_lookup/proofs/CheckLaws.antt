@@ -75,3 +75,5 @@ module _ (d w w' : List ℕ) (rows base m p k : ℕ) (fine : Bool) (R : RowsPlac
             record { names = R.passes e s G Γ r B; parameters = z; strokes = u; carries = R.carries e s G Γ r B u };
         stops = λ y. absurd (y refl);
       }
+
+pub ruleset check_cases = (checked_names, checked_parameters, checked_strokes, checked_all)

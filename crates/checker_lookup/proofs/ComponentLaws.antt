@@ -164,5 +164,7 @@ components_high s d w w' p base m ids gs C l X =
     carries_each (Component s d X) (λ q. dictionary_at ≤ q) _ (rows w' base m) (C.carries X) (each_place (λ q. p < q) (λ q. dictionary_at ≤ q) (λ q h. omega arith) (rows w' base m) C.after)
 
 -- Places are words.
-pub component_few : (s d w : List ℕ) (p base at : ℕ) → ComponentsAsked s d w p base → at + 1 < length (heap s d) → at + 1 < 2 ^ 32
-component_few s d w p base at A l = let z = heap_length s d A.areas.size in let f = A.few in omega arith
+pub writing_few : (s d w w' : List ℕ) (p base m at j : ℕ) (A : ComponentsAsked s d w p base) → j < m →
+    ((ids : List ℕ) (gs : Tys) → Reads (heap s d) p (node (binding ids) gs) → Writing (heap s d) w w' p base m at j ids gs) → at + 1 < 2 ^ 32
+writing_few s d w w' p base m at j A l I =
+    let z = heap_length s d A.areas.size in let f = A.few in let N = writing_next _ _ _ _ _ _ _ _ _ _ l (I _ _ A.reads) in let n = N.low in omega arith

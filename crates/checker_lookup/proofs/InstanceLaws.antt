@@ -8,7 +8,7 @@ use Rattle.types_rules.specs.Types.{nil, under, Each}
 use Rattle.types_rules.proofs.Instance.{instance_none}
 use Rattle.checker_rules.specs.Unknowns.{slot, row}
 use Rattle.types_cells.specs.Settled.{Entering, Entered}
-use Rattle.types_solver.specs.Growth.{unknowns, Instancing, Instanced}
+use Rattle.types_solver.specs.Growth.{unknowns, Instanced}
 use Rattle.checker_pieces.proofs.Stages.{room_less}
 use Rattle.checker_lookup.specs.Enlarged.{Enlarged}
 use Rattle.checker_lookup.specs.References.{InstanceAsked, InstanceOf}
@@ -43,28 +43,6 @@ module _ (s d : List ℕ) (n top p first m : ℕ) (B : InstanceAsked s d n top p
           over = instance_each (λ x. In x G.mentioned) nil g tt;
         };
       }))
-
-  pub entered_ask : Instancing s d n top p first m
-  entered_ask =
-      let a = B.room.cells in
-      let b = B.room.words in
-      let c = B.room.fit in
-      let e = B.small in
-      record {
-        type = B.type;
-        reads = B.reads;
-        room = record {
-          P₀ = B.ghost.equations;
-          L = B.stands.piece.L;
-          solved = B.stands.piece.solved;
-          above = B.stands.above;
-          few = B.stands.few;
-          row_made = B.made;
-          cells = omega arith;
-          words = omega arith;
-          fit = omega arith;
-        };
-      }
 
   module _ (s' : List ℕ) (cell n' top' : ℕ) (N : Instanced s s' d n top p first m cell n' top') where
     entered_enlarged : Enlarged s s' d n top n' top' 32

@@ -268,3 +268,7 @@ module _ (d w₀ w : List ℕ) (rows base m j k : ℕ) (A : RowsAsked d w₀ row
         (λ i l. subst (λ (x : ℕ). ComponentInScope s d G Γ k x (get_or w (base + 2 * i + 1) 0)) (sym (I.names i)) (I.placed s G Γ B.dictionary B.scoped B.size i (omega arith)));
     stops = λ e. absurd (true≢false e);
   }
+
+pub ruleset row_cases = (row_passed, row_absent, row_present)
+
+pub ruleset placing_turns = (placing_start, placing_ask, placing_stops, placing_end)

@@ -88,3 +88,5 @@ module _ (d w : List ℕ) (rows id r : ℕ) (F : Finds w 0 rows id r) where
 
 pub place_after : (d w : List ℕ) (rows id q : ℕ) → InScope d w rows id (dictionary_at + 1 + q) → InScope d w rows id (dictionary_at + q + 1)
 place_after d w rows id q I = let e : dictionary_at + 1 + q ≡ dictionary_at + q + 1 = omega arith in subst (InScope d w rows id) e I
+
+pub ruleset scope_cases = (scope_local, scope_unknown, scope_recorded, place_after)

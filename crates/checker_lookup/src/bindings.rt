@@ -20,6 +20,7 @@ fn settle_places(a: &mut [u32], d: &[u32], w: &[u32], base: usize, m: usize, n: 
 }
 
 // Part number j of m, the cell c, in the run at top, and its identifier in the run after that. The cells are n.
+#[tactic(auto, using(crate::proofs::BindingLaws::row_ask, crate::proofs::BindingLaws::row_ask_name))]
 fn put_row(a: &mut [u32], n: usize, top: usize, m: usize, j: usize, c: usize, id: usize)
     requires { (Putting a.old n top m j c) × (id < 2 ^ 32) }
     ensures { RowPut a.old a.new n top m j c id }

@@ -15,6 +15,7 @@ use types_solver::entering::Grown;
 use words::{store, word};
 
 // The place of the type of an identifier in scope that is not generic.
+#[tactic(auto, using(crate::proofs::ThetaLaws::scope_cases))]
 pub fn place_in_scope(d: &[u32], w: &[u32], rows: usize, id: usize) -> Option<usize>
     requires { 2 * rows ≤ length w.now }
     ensures { MatchOption result (InScope d.now w.now rows id 0) (λ p. InScope d.now w.now rows id (p + 1)) }
@@ -35,6 +36,7 @@ pub fn place_in_scope(d: &[u32], w: &[u32], rows: usize, id: usize) -> Option<us
 
 // The place of the row at `at` becomes that of the decorated identifier's type in scope. False: it has none there. An identifier that
 // cannot take the stroke is passed over.
+#[tactic(auto, using(crate::proofs::PlacedLaws::row_cases))]
 fn place_row(d: &[u32], w: &mut [u32], rows: usize, at: usize, stroke: usize) -> bool
     requires { RowsAsked d.now w.old rows at 1 stroke }
     ensures { RowPlaced d.now w.old w.new rows at stroke result }
@@ -53,10 +55,12 @@ fn place_row(d: &[u32], w: &mut [u32], rows: usize, at: usize, stroke: usize) ->
 }
 
 // The same for each of the m rows at base.
+#[tactic(auto, using(crate::proofs::PlacedLaws::placing_turns))]
 fn place_rows(d: &[u32], w: &mut [u32], rows: usize, base: usize, m: usize, stroke: usize) -> bool
     requires { RowsAsked d.now w.old rows base m stroke }
     ensures { RowsPlaced d.now w.old w.new rows base m stroke result }
 {
+    // No all(): each turn writes w.
     for j in 0..m {
         if !place_row(d, w, rows, base + 2 * j, stroke) {
             return false;
@@ -66,6 +70,7 @@ fn place_rows(d: &[u32], w: &mut [u32], rows: usize, base: usize, m: usize, stro
 }
 
 // The finding of a Theta over a schema with p parameters, whose m rows stand at base; 0 where there is none.
+#[tactic(auto, using(crate::proofs::CheckLaws::check_cases))]
 fn checks(
     d: &[u32],
     w: &mut [u32],

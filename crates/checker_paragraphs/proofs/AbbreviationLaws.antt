@@ -1,18 +1,16 @@
 -- What follows the visit of an Abbreviation's expression, from what the functions that it calls tell.
-use mathlib.Core.Path.{◌≡◌, refl, sym, ap, subst, ◌∙◌}
-use mathlib.Core.Bool.{Bool, true, false}
-use mathlib.Core.List.{List, [], ◌∷◌}
-use Prim.Native.Nat.{ℕ, ◌+◌, ◌-◌, ◌≤◌, ◌<◌}
+use mathlib.Core.Path.{◌≡◌, refl, sym, subst, ◌∙◌}
+use mathlib.Core.Bool.{Bool, true}
+use mathlib.Core.List.{List}
+use Prim.Native.Nat.{ℕ, ◌+◌, ◌≤◌, ◌<◌}
 use native.Mathlib.Omega.{arith}
-use lib.ListN.{length, drop, take, replicate}
-use lib.Seq.{sets}
+use lib.ListN.{drop, take}
 use Rattle.checker_merging.specs.Merging.{NewTold}
-use Rattle.checker_pieces.specs.Closed.{Closed, Sizing, SizeIs, Wording, WordsAre}
+use Rattle.checker_pieces.specs.Closed.{Closed, SizeIs, Wording, WordsAre}
 use Rattle.checker_entries.proofs.Writing.{small_words}
 use Rattle.checker_closing.specs.Nodes.{LinedAt}
 use Rattle.checker_closing.specs.declared.results.Lined.{Lined}
-use Rattle.checker_paragraphs.specs.Abbreviations.{TypeAsk, TypeFine, TypeFound, several, clash, large, none, Entered, AbbreviatedTold, unvisited, refused}
-use Rattle.checker_contracts.specs.Room.{entries_at}
+use Rattle.checker_paragraphs.specs.Abbreviations.{TypeFine, TypeFound, several, clash, large, none, AbbreviatedTold, refused}
 
 pub words_end : {s d out out' : List ℕ} {n c at e : ℕ} → Wording s d n c at → WordsAre s d out out' n c at e → (at ≤ e) × (e ≤ at + 95)
 words_end {s} {d} {out} {out'} {n} {c} B W = let q = (W B.sizing.ghost B.sizing.shut).end in let l = small_words (B.sizing.shut.type c) B.small in (omega arith, omega arith)
@@ -22,25 +20,13 @@ module _ {s s' d : List ℕ} {n : ℕ} {b : Bool} (C : Closed s s' d n b) where
   closed : {b' : Bool} → b ≡ b' → Closed s s' d n b'
   closed e = subst (Closed s s' d n) e C
 
-  pub type_several : {w : List ℕ} {c : ℕ} {is : List ℕ} → b ≡ false → TypeFound s s' d w n c is 34
-  type_several e = several refl (closed e)
-
-  pub type_sizing : {c : ℕ} → TypeAsk s d n c → b ≡ true → Sizing s' d n c
-  type_sizing A e = A.sizing s' (closed e)
-
   module _ (one : b ≡ true) {w l is : List ℕ} (own : l ≡ is) {h : Bool} (M : NewTold d w (drop 0 l) h) where
     named : {h' : Bool} → h ≡ h' → NewTold d w (drop 0 is) h'
     named e = subst (NewTold d w (drop 0 is)) e (subst (λ z. NewTold d w (drop 0 z) h) own M)
 
-    pub type_clash : {c : ℕ} → h ≡ false → TypeFound s s' d w n c (drop 0 is) 36
-    type_clash e = clash refl (closed one) (named e)
-
     module _ (new : h ≡ true) {c v : ℕ} (Z : SizeIs s' d n c v) where
       pub type_large : 32 < v → TypeFound s s' d w n c (drop 0 is) 38
       type_large l = large refl (closed one) (named new) v Z l
-
-      pub type_none : length s' ≡ length s → v ≤ 32 → TypeFound s s' d w n c (drop 0 is) 0
-      type_none same l = none refl (record { same = same; closed = closed one; new = named new; size = v; size_is = Z; small = l })
 
 pub type_fine : {s s' d w is : List ℕ} {n c number : ℕ} → TypeFound s s' d w n c is number → number ≡ 0 → TypeFine s s' d w n c is
 type_fine (several e C) z = absurd (omega arith)
@@ -50,15 +36,7 @@ type_fine (none e F) z = F
 
 -- THE RESULT.
 module _ {s d w p : List ℕ} {k q number₀ place₀ c n end : ℕ} {r : Lined} where
-  pub told_unvisited : (number₀ ≡ 0 → ⊥) → LinedAt r number₀ place₀ 0 0 → AbbreviatedTold s s d w w p k q number₀ place₀ c n end r.number r.place r.count r.at
-  told_unvisited ne L = unvisited ne L.number_is L.place_is refl refl
-
   pub told_refused : {s' : List ℕ} {f : ℕ} → number₀ ≡ 0 → TypeFound s s' d w n c (drop 0 (take 1 (drop 1 p))) f → (f ≡ 0 → ⊥) → LinedAt r f k 0 0 →
       AbbreviatedTold s s' d w w p k q number₀ place₀ c n end r.number r.place r.count r.at
   told_refused {s'} {f} z F ne L =
       refused z (λ e. ne (sym L.number_is ∙ e)) L.place_is (subst (TypeFound s s' d w n c (drop 0 (take 1 (drop 1 p)))) (sym L.number_is) F) refl
-
-pub entry_made : {s s' d w w' : List ℕ} {n c name q end : ℕ} (w₁ : List ℕ) (last : ℕ) {id : ℕ} → WordsAre s d w w₁ n c (entries_at + 4) last → id ≡ name →
-    w' ≡ sets w₁ entries_at ((last - entries_at - 1) ∷ 1 ∷ id ∷ q ∷ []) → s' ≡ sets s 1 (replicate (end - 1) 0) → Entered s s' d w w' n c name q end
-entry_made {q = q} w₁ last W e h z =
-    record { between = w₁; last = last; words = W; head = h ∙ ap (λ j. sets w₁ entries_at ((last - entries_at - 1) ∷ 1 ∷ j ∷ q ∷ [])) e; wiped = z }

@@ -1,34 +1,28 @@
 -- Paragraphs with parameters by the words of their node: Schema, Abbreviation.
 use mathlib.Core.Path.{◌≡◌, refl, sym, ap, subst, ◌∙◌}
-use mathlib.Core.Bool.{Bool, true, false}
-use mathlib.Core.List.{List, [], ◌∷◌}
-use Prim.Native.Nat.{ℕ, ◌+◌, ◌*◌, ◌-◌, ◌≤◌, ◌<◌, ◌^◌}
+use mathlib.Core.List.{List}
+use Prim.Native.Nat.{ℕ, ◌+◌, ◌-◌, ◌≤◌}
 use native.Mathlib.Omega.{arith}
 use lib.ListN.{length, get_or, take, drop, replicate}
 use lib.Seq.{sets, length-take-le}
 use lib.ListN.{length-drop}
-use Rattle.words.proofs.Lists.{drop_next}
 use Rattle.layout.specs.Layout.{part}
-use Rattle.reader_rules.specs.Decode.{paragraph_at, schema_at, expr_at}
-use Rattle.reader_rules.specs.Kinds.{paragraphs, schema_expressions, expressions}
+use Rattle.reader_rules.specs.Decode.{paragraph_at, schema_at}
+use Rattle.reader_rules.specs.Kinds.{paragraphs, schema_expressions}
 use Rattle.reader_rules.specs.Nodes.{kind_at, operand_at}
 use Rattle.reader_rules.specs.Promise.{At}
-use Rattle.reader_rules.specs.Tree.{Paragraph, schema, abbreviation}
-use Rattle.reader_rules.proofs.TreeParagraph.{Defined, paragraph_schema, paragraph_abbreviation}
+use Rattle.reader_rules.specs.Tree.{Paragraph, schema}
+use Rattle.reader_rules.proofs.TreeParagraph.{Defined, paragraph_schema}
 use Rattle.types_rules.specs.Types.{Tys}
 use Rattle.types_cells.specs.Settled.{heap}
 use Rattle.types_solver.specs.Written.{Wrote}
 use Rattle.checker_signatures.specs.Rows.{rows}
-use Rattle.checker_merging.specs.Merging.{NewTold}
-use Rattle.checker_pieces.specs.Closed.{Closing, Closed, Sizing, SizeIs, Wording, WordsAre}
 use Rattle.checker_contracts.specs.Room.{frames_at, entries_at}
-use Rattle.checker_contracts.specs.Expressions.{ExprAsk, ExprDone}
 use Rattle.checker_contracts.specs.Paragraphs.{ParagraphAsk, ParagraphDone}
 use Rattle.checker_contracts.specs.Schemas.{SchemaAsk, SchemaDone}
 use Rattle.checker_entries.specs.Entries.{TypesAt, schema_of, entry_waits, TableAsk}
 use Rattle.checker_entries.specs.Parameters.{ParametersAsk, ParametersPushed}
 use Rattle.checker_entries.proofs.SchemaParagraph.{schema_asked, schema_stopped, schema_table, schema_done}
-use Rattle.checker_entries.proofs.Abbreviation.{expr_asked, expr_stopped, closing_asked, several, sizing, clash, too_large, wording, abbreviation_done}
 use Rattle.checker_closing.specs.Nodes.{Node, LinedAt}
 use Rattle.checker_closing.specs.declared.results.Lined.{Lined}
 use Rattle.checker_paragraphs.proofs.ParagraphNodes.{paragraph_told}
@@ -88,9 +82,6 @@ module _ {doc p : List ℕ} {k : ℕ} (N : Node doc p paragraphs k) {s d w : Lis
 
             pub schema_low : m ≤ 16
             schema_low = (T.done.areas fine).few
-
-            pub schema_end : at₂ < 2 ^ 40
-            schema_end = let o = P.place in let f = four.few in let z = (T.done.areas fine).short in let y = (T.done.areas fine).few in omega arith
 
             pub schema_told : {s₃ w₃ : List ℕ} {end : ℕ} {r : Lined} → ((gs : Tys) → TypesAt (heap s₂ d) (rows w₂ frames_at m) gs → Wrote w₂ w₃ entries_at end (entry_waits (schema_of name n (rows w₂ frames_at m) gs))) →
                 s₃ ≡ sets s₂ 1 (replicate (at₂ - 1) 0) → LinedAt r 0 k 1 entries_at → ParagraphDone s s₃ d w w₃ (paragraph_at doc k) r.number r.place r.at r.count

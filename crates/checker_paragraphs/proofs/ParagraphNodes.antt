@@ -1,8 +1,8 @@
 -- Paragraphs by the words of their node: Given, Axiom, Constraint.
 use mathlib.Core.Path.{◌≡◌, refl, sym, ap, subst, ◌∙◌}
-use mathlib.Core.Bool.{Bool, true, false, not}
-use mathlib.Core.List.{List, [], ◌∷◌}
-use Prim.Native.Nat.{ℕ, ◌+◌, ◌*◌, ◌-◌, ◌≤◌, ◌<◌, ◌^◌}
+use mathlib.Core.Bool.{Bool, true, false}
+use mathlib.Core.List.{List}
+use Prim.Native.Nat.{ℕ, ◌+◌, ◌-◌, ◌≤◌}
 use native.Mathlib.Omega.{arith}
 use lib.ListN.{length, get_or, take, drop, replicate, length-drop}
 use lib.Seq.{sets}
@@ -42,14 +42,6 @@ paragraph_told {s} {s'} {d} {w} {w'} {p} {f} {x} {c} {e} {r} L D =
     (subst (λ z. ParagraphDone s s' d w w' p f x z r.count) (sym L.at_is)
     (subst (λ z. ParagraphDone s s' d w w' p f x e z) (sym L.count_is) D)))
 
-pub refusing : (b : Bool) → not b ≡ true → b ≡ false
-refusing true e = sym e
-refusing false e = refl
-
-pub agreeing : (b : Bool) → not b ≡ false → b ≡ true
-agreeing true e = refl
-agreeing false e = sym e
-
 -- All parameters, from the first on.
 pub all_parameters : {s s' w w' : List ℕ} (p : List ℕ) {n at : ℕ} → ParametersPushed s s' w w' (take (n - 0) (drop (0 + 3) p)) 0 n at → ParametersPushed s s' w w' (take n (drop 3 p)) 0 n at
 all_parameters {s} {s'} {w} {w'} p {n} {at} P = subst (λ j. ParametersPushed s s' w w' (take j (drop 3 p)) 0 n at) (let z : n - 0 ≡ n = omega arith in z) P
@@ -65,9 +57,6 @@ kind_last {doc} {p} {k} {q} N e h a b c d =
     all_at (λ j. kind_at doc k ≡ j → kind_at doc k ≡ 6) 2 5
     ((λ y. absurd (a (z ∙ y))) ▹ (λ y. absurd (b (z ∙ y))) ▹ (λ y. absurd (c (z ∙ y))) ▹ (λ y. absurd (d (z ∙ y))) ▹ (λ y. y) ▹ tt)
     (kind_at doc k) r.0 (omega arith) refl
-
-pub node_small : {doc p : List ℕ} {k s : ℕ} → Node doc p s k → k < 2 ^ 32
-node_small N = let z = N.at.small in omega arith
 
 module _ {doc p : List ℕ} {k : ℕ} (N : Node doc p paragraphs k) {s d w : List ℕ} (A : ParagraphAsk s d w (paragraph_at doc k)) where
   -- 6
@@ -98,9 +87,6 @@ module _ {doc p : List ℕ} {k : ℕ} (N : Node doc p paragraphs k) {s d w : Lis
         pub axiom_rows : TableAsk s' d w' frames_at m entries_at
         axiom_rows = axiom_table s d w (paragraph_at doc k) k (text_at doc x) three.tree s' w' number place m at' T A fine
 
-        pub axiom_end : at' < 2 ^ 40
-        axiom_end = let z = (T.done.areas fine).short in let y = (T.done.areas fine).few in omega arith
-
         pub axiom_told : {s'' w'' : List ℕ} {end : ℕ} {r : Lined} →
             ((gs : Tys) → TypesAt (heap s' d) (rows w' frames_at m) gs → Wrote w' w'' entries_at end (waiting (name_entries (rows w' frames_at m) gs))) → s'' ≡ sets s' 1 (replicate (at' - 1) 0) →
             LinedAt r 0 k m entries_at → ParagraphDone s s'' d w w'' (paragraph_at doc k) r.number r.place r.at r.count
@@ -120,13 +106,6 @@ module _ {doc p : List ℕ} {k : ℕ} (N : Node doc p paragraphs k) {s d w : Lis
     pub given_short : length p ≤ 1000
     unfolding cell
     given_short = let e = ap length N.words in let l : length (part doc k) ≤ cell 2 1 = subst (λ z. length (part doc k) ≤ cell z 1) q (at_most doc paragraphs k N.at) in omega arith
-
-    pub given_some : 1 ≤ length p
-    given_some = go p (ap (λ z. get_or z 0 0) N.words ∙ q)
-      where
-        go : (l : List ℕ) → get_or l 0 0 ≡ 2 → 1 ≤ length l
-        go [] e = absurd (omega arith)
-        go (y ∷ l) e = omega arith
 
     pub given_clashes : {b : Bool} {r : Lined} → NewTold d w (drop 1 p) b → b ≡ false → LinedAt r 36 k 0 0 → ParagraphDone s s d w w (paragraph_at doc k) r.number r.place r.at r.count
     given_clashes {b} T e L = paragraph_told L (given_clash s d w (paragraph_at doc k) k (drop 1 p) two (subst (NewTold d w (drop 1 p)) e T) 0 0)

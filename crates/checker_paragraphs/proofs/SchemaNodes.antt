@@ -1,24 +1,20 @@
--- Schema expressions, from node to node: their kinds, a Conjunction's rows, and its two sides.
+-- Schema expressions, from node to node: their kinds, and a Conjunction's two sides.
 use mathlib.Core.Path.{◌≡◌, refl, sym, ap, subst, ◌∙◌}
-use mathlib.Core.Bool.{Bool, true, false}
-use mathlib.Core.Logic.{◌⊎◌, inl, inr, ⊎_elim}
-use mathlib.Core.List.{List, []}
-use Prim.Native.Nat.{ℕ, ◌+◌, ◌*◌, ◌≤◌, ◌<◌}
+use mathlib.Core.Bool.{false}
+use mathlib.Core.Logic.{⊎_elim}
+use mathlib.Core.List.{List}
+use Prim.Native.Nat.{ℕ, ◌+◌, ◌<◌}
 use native.Mathlib.Omega.{arith}
-use lib.ListN.{length, get_or}
+use lib.ListN.{get_or}
 use Rattle.layout.specs.Layout.{part}
 use Rattle.reader_rules.specs.Kinds.{schema_expressions, texts, includes}
 use Rattle.reader_rules.specs.Nodes.{kind_at}
 use Rattle.reader_rules.specs.Promise.{At}
-use Rattle.reader_rules.specs.Tree.{Schema, both}
+use Rattle.reader_rules.specs.Tree.{both}
 use Rattle.reader_rules.specs.Decode.{schema_at, text_at, include_at}
 use Rattle.reader_rules.proofs.TreeShape.{Two}
 use Rattle.reader_rules.proofs.TreeText.{schema_kinds, schema_both, schema_plain, schema_from, as_text, as_include}
-use Rattle.checker_signatures.specs.Rows.{rows, merge_rows}
-use Rattle.checker_signatures.specs.Tables.{Table, Beside, table_words}
-use Rattle.checker_merging.specs.Merging.{RowsTold}
-use Rattle.checker_includes.specs.Storing.{KeepAsk, RowsKept}
-use Rattle.checker_contracts.specs.Room.{frame_words}
+use Rattle.checker_signatures.specs.Tables.{table_words}
 use Rattle.checker_contracts.specs.Joining.{JoinAsk, Joined}
 use Rattle.checker_contracts.specs.Schemas.{SchemaAsk, SchemaDone}
 use Rattle.checker_contracts.specs.Texts.{TextAsk, TextDone}
@@ -26,51 +22,6 @@ use Rattle.checker_contracts.specs.Includes.{BringsAsk, BringsDone}
 use Rattle.checker_contracts.proofs.SchemaKinds.{text_asked, text_schema, include_asked, include_schema}
 use Rattle.checker_contracts.proofs.Conjoining.{both_first, both_first_stops, both_second, both_second_stops}
 use Rattle.checker_contracts.proofs.Keeping.{join_asked, both_joined}
-use Rattle.checker_closing.specs.Nodes.{LinedAt}
-use Rattle.checker_closing.specs.declared.results.Lined.{Lined}
-
--- A CONJUNCTION'S ROWS.
-module _ (s d w : List ℕ) (free m n at end k : ℕ) where
-  pub join_clash : (b : Bool) → RowsTold s d w free m (free + table_words) n b → b ≡ false → (r : Lined) → LinedAt r 36 k 0 0 → Joined s s d w w free m n at end k r.number r.place r.count r.at
-  join_clash b T e r L =
-      record { place_is = L.place_is; found = inl (record { number_is = L.number_is; told = subst (RowsTold s d w free m (free + table_words) n) e T; still = refl; same = refl }) }
-
-  pub keep_ready : (A : JoinAsk s d w free m n at end) (row : List ℕ) → row ≡ [] → (free' : ℕ) → free' ≡ free + frame_words → KeepAsk s d w free m (free + table_words) n row at end free'
-  keep_ready A row e free' q = subst (λ z. KeepAsk s d w free m (free + table_words) n row at end z) (sym q) (subst (λ z. KeepAsk s d w free m (free + table_words) n z at end (free + frame_words)) (sym e) A.keep)
-
-  module _ (A : JoinAsk s d w free m n at end) (s' w₁ row : List ℕ) (er : row ≡ []) (free' last : ℕ) (ef : free' ≡ free + frame_words) (K : RowsKept s s' d w w₁ free m (free + table_words) n row at end free' last) where
-    pub merge_ready : Beside (length w₁) free (m + n) (free + table_words) n
-    merge_ready =
-        let l = A.few in
-        let q = A.keep.many in
-        let z = A.keep.scratch in
-        let y = K.size in
-        record { room = omega arith; inside = omega arith; apart = inl (omega arith) }
-
-    plain : RowsKept s s' d w w₁ free m (free + table_words) n [] at end (free + frame_words) last
-    plain = subst (λ z. RowsKept s s' d w w₁ free m (free + table_words) n z at end (free + frame_words) last) er (subst (λ z. RowsKept s s' d w w₁ free m (free + table_words) n row at end z last) ef K)
-
-    module _ (b : Bool) (T : RowsTold s d w free m (free + table_words) n b) (eb : b ≡ true) (w₂ : List ℕ) (total : ℕ) (M : Table w₁ w₂ free (merge_rows (rows w₁ (free + table_words) n) (rows w₁ free m)) total) (r : Lined) where
-      join_with : r.place ≡ k → ((r.number ≡ 38) × (16 < total)) ⊎ ((r.number ≡ 0) × (total ≤ 16) × (r.count ≡ total) × (r.at ≡ last)) →
-          Joined s s' d w w₂ free m n at end k r.number r.place r.count r.at
-      join_with p o = record {
-        place_is = p;
-        found = inr (record {
-          told = subst (RowsTold s d w free m (free + table_words) n) eb T;
-          between = w₁;
-          last = last;
-          kept = plain;
-          total = total;
-          merged = M;
-          outcome = o;
-        });
-      }
-
-      pub join_many : 16 < total → LinedAt r 38 k 0 0 → Joined s s' d w w₂ free m n at end k r.number r.place r.count r.at
-      join_many l L = join_with L.place_is (inl (L.number_is, l))
-
-      pub join_done : total ≤ 16 → LinedAt r 0 k total last → Joined s s' d w w₂ free m n at end k r.number r.place r.count r.at
-      join_done l L = join_with L.place_is (inr (L.number_is, l, L.count_is, L.at_is))
 
 -- A SCHEMA EXPRESSION. q is its kind, p its words.
 module _ (doc p : List ℕ) (k q : ℕ) (N : At doc schema_expressions k) (ep : p ≡ part doc k) (eq : q ≡ get_or p 0 0) (s d w : List ℕ) (stack at free : ℕ) (A : SchemaAsk s d w stack at free (schema_at doc k)) where

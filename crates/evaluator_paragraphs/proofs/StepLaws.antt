@@ -91,6 +91,10 @@ module _ {P : Environment → Type 0} (k : ℕ) (p : Pred) (scope : Environment)
       go false g = step_failed P k
 
 -- ---- the identifiers of a Decl
+-- what the tests of those from j on tell
+abbrev pub NamesTold : ℕ → (Value → Outcome Bool) → List ℕ → State → ℕ → Result Progress Refusal → Type 0
+NamesTold v f x s j r = TestsTold (bind_givens (drop j x) s) r (test_names v f (drop j x) s)
+
 module _ (v : ℕ) (f : Value → Outcome Bool) (x : List ℕ) (j : ℕ) (s : State) where
   pub names_end : length x ≤ j → TestsTold (bind_givens (drop j x) s) (Ok Onward) (test_names v f (drop j x) s)
   unfolding test_names bind_givens
@@ -119,6 +123,16 @@ unfolding line_names declared_count
 names_counted end = refl
 names_counted (declaration n a xs ls) = length-append (names_as false xs) (line_names ls) ∙ omega (arith, as_length false xs, names_counted ls)
 names_counted (inclusion i ls) = names_counted ls
+
+abbrev pub lines_of : List ℕ → ℕ → ℕ → Lines
+lines_of doc t i = lines_from doc t i (length (part doc t) - i)
+
+-- what the tests of the lines from i on tell, and what their identifiers make of b blocks
+abbrev pub LinesTold : List ℕ → ℕ → State → Environment → ℕ → Result Progress Refusal → Type 0
+LinesTold doc t s scope i r = TestsTold (bind_lines (lines_of doc t i) s) r (test_lines (lines_of doc t i) s scope)
+
+abbrev pub LinesPut : List ℕ → ℕ → State → List ℕ → List ℕ → List ℕ → ℕ → ℕ → Type 0
+LinesPut doc t s state before after b i = Extends state before after b (b + declared_count (lines_of doc t i)) (bind_lines (lines_of doc t i) s)
 
 module _ (doc : List ℕ) (t : ℕ) (s : State) where
   pub lines_over : (scope : Environment) (i e : ℕ) → e ≤ i →
@@ -337,9 +351,6 @@ from doc i = paragraphs_from doc (count doc) i (length (part doc (count doc)) - 
 pub record RunLeft (doc : List ℕ) (s : State) (state work₀ : List ℕ) (n i : ℕ) (work : List ℕ) (b j : ℕ) : Type 0 where
   pub run : (r : Result Progress Refusal) → ((scope : Environment) → Scoped state work b scope → Told (Stepped (λ z. Unit {0})) r (run_paragraphs (from doc j) s scope)) →
       (scope : Environment) → Scoped state work₀ n scope → Told (Stepped (λ z. Unit {0})) r (run_paragraphs (from doc i) s scope)
-
-pub left_all : (doc : List ℕ) (s : State) (state work : List ℕ) (n i : ℕ) → RunLeft doc s state work n i work n i
-left_all doc s state work n i = record { run = λ r h. h }
 
 module _ (doc : List ℕ) (s : State) (i : ℕ) where
   abbrev size : ℕ

@@ -50,21 +50,20 @@ fn test_names(
     requires { Stated doc.now state.now table.now × Ready doc.now work.old expressions n (get_or x.now 1 0) × Declares doc.now (names_as true (drop j x.now)) × (v ≤ 1024) × (length x.now ≤ 256) }
     ensures { Leaves n work.old work.new ((scope : Environment) → Scoped state.now work.old n scope → TestsTold (bind_givens (drop j x.now) (said doc.now state.now)) result (test_names v (test (expr_at doc.now (get_or x.now 1 0)) scope) (drop j x.now) (said doc.now state.now))) }
 {
-    if x.len() <= j {
-        return Ok(Progress::Onward);
+    for i in j..x.len() {
+        let y = tests(
+            doc,
+            state,
+            work,
+            n,
+            word(x, 1),
+            held_name(doc, state, table, word(x, i)),
+        )?;
+        if !y {
+            return Ok(Progress::Failed { node: v as u32 });
+        }
     }
-    let y = tests(
-        doc,
-        state,
-        work,
-        n,
-        word(x, 1),
-        held_name(doc, state, table, word(x, j)),
-    )?;
-    if y {
-        return test_names(doc, state, table, work, n, v, x, j + 1);
-    }
-    Ok(Progress::Failed { node: v as u32 })
+    Ok(Progress::Onward)
 }
 
 // The lines of Text t, with the words u, from i on: each Decl tests its identifiers; an Include stops the run.
@@ -81,19 +80,19 @@ fn test_lines(
     requires { Stated doc.now state.now table.now × At doc.now texts t × (u.now ≡ part doc.now t) × (2 ≤ i) × (i ≤ 256) × Roomy work.old n 0 × Declares doc.now (line_names (lines_from doc.now t i (length u.now - i))) }
     ensures { Leaves n work.old work.new ((scope : Environment) → Scoped state.now work.old n scope → TestsTold (bind_lines (lines_from doc.now t i (length u.now - i)) (said doc.now state.now)) result (test_lines (lines_from doc.now t i (length u.now - i)) (said doc.now state.now) scope)) }
 {
-    if u.len() <= i {
-        return Ok(Progress::Onward);
+    for j in i..u.len() {
+        let v = word(u, j);
+        let x = part(doc, v);
+        if word(x, 0) == kinds::INCLUDE {
+            return Err(refusal(findings::NOT_RUN, v));
+        }
+        let y = test_names(doc, state, table, work, n, v, x, 2)?;
+        match y {
+            Progress::Onward => {}
+            Progress::Failed { node } => return Ok(y),
+        }
     }
-    let v = word(u, i);
-    let x = part(doc, v);
-    if word(x, 0) == kinds::INCLUDE {
-        return Err(refusal(findings::NOT_RUN, v));
-    }
-    let y = test_names(doc, state, table, work, n, v, x, 2)?;
-    match y {
-        Progress::Onward => test_lines(doc, state, table, work, n, t, u, i + 1),
-        Progress::Failed { node } => Ok(y),
-    }
+    Ok(Progress::Onward)
 }
 
 // The identifiers of the lines of Text t from i on, in blocks from b on.
@@ -110,16 +109,14 @@ fn put_lines(
     requires { Stated doc.now state.now table.now × At doc.now texts t × (u.now ≡ part doc.now t) × (2 ≤ i) × (i ≤ 256) × Roomy work.old b (declared_count (lines_from doc.now t i (length u.now - i))) × Declares doc.now (line_names (lines_from doc.now t i (length u.now - i))) }
     ensures { Extends state.now work.old work.new b (b + declared_count (lines_from doc.now t i (length u.now - i))) (bind_lines (lines_from doc.now t i (length u.now - i)) (said doc.now state.now)) }
 {
-    if u.len() <= i {
-        return;
+    let mut top = b;
+    for j in i..u.len() {
+        let x = part(doc, word(u, j));
+        if word(x, 0) != kinds::INCLUDE {
+            put_names(doc, state, table, work, top, x, 2);
+            top += x.len() - 2;
+        }
     }
-    let x = part(doc, word(u, i));
-    if word(x, 0) == kinds::INCLUDE {
-        put_lines(doc, state, table, work, b, t, u, i + 1);
-        return;
-    }
-    put_names(doc, state, table, work, b, x, 2);
-    put_lines(doc, state, table, work, b + (x.len() - 2), t, u, i + 1);
 }
 
 // 2 Given.

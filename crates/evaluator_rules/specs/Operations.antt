@@ -13,7 +13,7 @@ use Rattle.values.specs.SetValues.{insert_value, Image, found, misfit, undefined
 use Rattle.evaluator_rules.specs.WordCount.{word_count}
 use Rattle.evaluator_rules.specs.Outcomes.{Outcome, ◌>>=◌, pure, stop, keep}
 
--- 51: a value of a sort that the operation at node n cannot use. The numbers of enums stand in `integer_finding`, `number_finding`, `apply_finding`.
+-- 51: a value of a sort that the operation at node n cannot use. The numbers of what arithmetic gives, of no integer and of Apply stand in `integer_finding`, `number_finding`, `apply_finding`.
 unfoldable pub as_integer : ℕ → Value → Outcome ℤ
 as_integer n (int z) = pure z
 as_integer n (element g k) = stop (number_finding None) n

@@ -1,4 +1,4 @@
--- The run call: reading's findings, then 21, then 41, then the paragraphs (document 01, "RunFinding numbers"; R8: in the run there is no 22).
+-- The run call: reading's findings, then 21, then 41, then the paragraphs (document 01, "Finding numbers"; R8: in the run there is no 22).
 use Rattle.std.specs.Prelude.{List, [], Bool, true, false, ℕ, leb, Err}
 use Rattle.reader_rules.specs.Tree.{Document}
 use Rattle.reader_rules.specs.Reading.{read_of}

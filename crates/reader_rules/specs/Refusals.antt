@@ -1,4 +1,4 @@
--- A finding of reading, of a check or of a state: none, or a refusal with its number and place. Each of the three has its own word for none.
+-- A finding of reading, of a check or of a state: none, or a refusal with its number and place. For none reading and states say `Readable`, a check and a fit `Accepted`.
 use Rattle.std.specs.Prelude.{ℕ, Result, Ok, Err}
 use Rattle.reader_rules.specs.declared.Refusal.{Refusal}
 

@@ -1,19 +1,9 @@
 use Rattle.checker.proofs.FirstLaws.{first_some, first_ask, first_answered, blank_recorded}
-use Prim.Native.Nat.{ℕ}
 use native.Mathlib.Omega.{arith}
-use lib.ListN.{length-replicate}
-use mathlib.Core.Path.{sym}
-use Rattle.types_cells.specs.Layout.{area_size}
 use Rattle.checker.proofs.check_paragraphs.Goals as goal
-
-pub begin-requires-2 : goal.begin-requires-2
-begin-requires-2 c = let v = c.requires.1 in omega arith
 
 pub overflow_sub-m : goal.overflow_sub-m
 overflow_sub-m c = first_some _ c.requires.0 _ c.word-n.ensures.0 _ c.part.ensures
-
-pub slice_bounds-paragraphs_from-end : goal.slice_bounds-paragraphs_from-end
-slice_bounds-paragraphs_from-end c = sym (length-replicate {A = ℕ} area_size 0)
 
 pub paragraphs_from-requires : goal.paragraphs_from-requires
 paragraphs_from-requires c =

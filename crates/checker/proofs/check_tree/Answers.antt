@@ -8,8 +8,5 @@ returns-then-work-lt-CHECK_WORK_WORDS c = tree_21 _ _ _ _ c.if-work-lt-CHECK_WOR
 pub returns-then-dict-eq0 : goal.returns-then-dict-eq0
 returns-then-dict-eq0 c = tree_22 _ _ _ _ c.if-work-lt-CHECK_WORK_WORDS.false c.if-dict-eq0.true
 
-pub check_paragraphs-requires : goal.check_paragraphs-requires
-check_paragraphs-requires c = (c.requires, c.if-work-lt-CHECK_WORK_WORDS.false, omega (arith, c.if-dict-eq0.false))
-
 pub returns : goal.returns
 returns c = tree_paragraphs _ _ _ _ c.if-work-lt-CHECK_WORK_WORDS.false (omega (arith, c.if-dict-eq0.false)) _ c.check_paragraphs.ensures

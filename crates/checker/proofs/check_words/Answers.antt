@@ -3,9 +3,6 @@ use Rattle.checker.proofs.AnsweringLaws.{words_tree, words_unread}
 use mathlib.Core.Path.{sym, ◌∙◌}
 use Rattle.checker.proofs.check_words.Goals as goal
 
-pub check_tree-requires : goal.check_tree-requires
-check_tree-requires c = sym c.read.ensures ∙ c.in_ok-read.was
-
 pub returns : goal.returns
 returns c = words_tree _ _ _ _ _ (sym c.read.ensures ∙ c.in_ok-read.was) c.check_tree.ensures
 

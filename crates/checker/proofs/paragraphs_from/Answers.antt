@@ -1,7 +1,7 @@
 use Rattle.std.proofs.lemmas.Result.{err_from_is_err_and}
 use Rattle.std.proofs.Common.{◌≡◌, ◌+◌, ◌-◌, refl, ◌∙◌, arith}
 use Rattle.checker.proofs.DocumentWords.{words_few}
-use Rattle.checker.proofs.FromLaws.{from_none, node_at_lem, from_listed, from_ask, from_goes, from_stops}
+use Rattle.checker.proofs.FromLaws.{from_none, node_at_lem, from_ask, from_goes, from_stops}
 use Rattle.checker.proofs.paragraphs_from.Goals as goal
 
 pub overflow_add-j-end : goal.overflow_add-j-end
@@ -14,11 +14,6 @@ pub loop-j-init : goal.loop-j-init
 loop-j-init c =
     let e : c.args.i + c.args.m - c.args.i ≡ c.args.m = omega arith in
     rw e (c.requires, refl, λ d' r h. h)
-
-pub enter-requires : goal.enter-requires
-enter-requires c =
-    let A = c.loop-j.invariant.0 in
-    (from_listed _ _ _ _ _ _ A (omega arith) _ (node_at_lem _ _ _ _ c.word-n.ensures.0 c.operand.ensures.0), A.ready)
 
 pub loop-j-preserved : goal.loop-j-preserved
 loop-j-preserved c =

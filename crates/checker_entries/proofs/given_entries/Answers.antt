@@ -2,9 +2,6 @@ use native.Mathlib.Omega.{arith}
 use Rattle.checker_entries.proofs.Writing.{givens_none, givens_next}
 use Rattle.checker_entries.proofs.given_entries.Goals as goal
 
-pub loop-i-init : goal.loop-i-init
-loop-i-init c = (c.requires, λ w' e W. W)
-
 pub loop-i-preserved : goal.loop-i-preserved
 loop-i-preserved c =
     let l = c.loop-i-test.true in

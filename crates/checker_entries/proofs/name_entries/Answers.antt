@@ -1,9 +1,6 @@
 use native.Mathlib.Omega.{arith}
-use Rattle.checker_entries.proofs.Writing.{naming_start, row_asked, naming_next, naming_end}
+use Rattle.checker_entries.proofs.Writing.{row_asked, naming_next, naming_end}
 use Rattle.checker_entries.proofs.name_entries.Goals as goal
-
-pub loop-j-init : goal.loop-j-init
-loop-j-init c = naming_start _ _ _ _ _ _ c.requires
 
 pub name_entry-end-requires : goal.name_entry-end-requires
 name_entry-end-requires c = let n = c.loop-j.invariant.0.near in (row_asked _ _ _ _ _ _ _ c.loop-j-test.true c.loop-j.invariant.0 _ c.word-in-loop-j.ensures.0, c.word.ensures.1, omega arith)

@@ -1,9 +1,6 @@
 use native.Mathlib.Omega.{arith}
-use Rattle.checker_entries.proofs.Writing.{reading_of, parting_start, row_asked, parting_next, parting_end}
+use Rattle.checker_entries.proofs.Writing.{reading_of, row_asked, parting_next, parting_end}
 use Rattle.checker_entries.proofs.put_parts.Goals as goal
-
-pub loop-j-init : goal.loop-j-init
-loop-j-init c = parting_start _ _ _ _ _ _ c.requires
 
 pub put_type-end-requires : goal.put_type-end-requires
 put_type-end-requires c = let n = c.loop-j.invariant.0.near in (reading_of _ _ _ (row_asked _ _ _ _ _ _ _ c.loop-j-test.true c.loop-j.invariant.0 _ c.word-p.ensures.0), omega arith)

@@ -12,6 +12,3 @@ append_all-requires c = (part_few c.args.dict.now 2147483648 4294967296 (omega (
 
 pub returns-then-dict-gt-MOST_WORDS : goal.returns-then-dict-gt-MOST_WORDS
 returns-then-dict-gt-MOST_WORDS c = λ D es e H W l. append_part D es _ _ _ 2147483648 (omega (arith, c.if-dict-gt-MOST_WORDS.true)) H l (λ X. c.append_all.ensures D es e X W)
-
-pub returns : goal.returns
-returns c = λ D es e H W l. c.append_all-2.ensures D es e H W

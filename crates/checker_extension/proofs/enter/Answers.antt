@@ -1,23 +1,10 @@
 use Rattle.checker_extension.proofs.ListedLaws.{listed_at}
-use Rattle.checker_extension.proofs.EnteringLaws.{entered_refused, entries_wait, entered_accepted, entered_full}
+use Rattle.checker_extension.proofs.EnteringLaws.{entered_refused, entered_accepted, entered_full}
 use native.Mathlib.Omega.{arith}
 use Rattle.checker_extension.proofs.enter.Goals as goal
 
-pub visit-p-requires : goal.visit-p-requires
-visit-p-requires c = c.requires
-
 pub returns-then-p-ne0 : goal.returns-then-p-ne0
 returns-then-p-ne0 c = entered_refused _ _ c.requires.0 _ _ _ _ _ c.requires.1 _ _ _ _ c.visit-p.ensures c.if-p-ne0.true
-
-pub append-requires : goal.append-requires
-append-requires c = entries_wait _ _ c.requires.0 _ _ _ _ _ c.requires.1 _ _ _ _ c.visit-p.ensures c.if-p-ne0.false
-
-pub extend-requires : goal.extend-requires
-extend-requires c =
-    let n = c.word-n.ensures in
-    let w = c.requires.1.wide in
-    let l = c.visit-p.auto.work in
-    (n.1, omega arith)
 
 pub returns-then-append : goal.returns-then-append
 returns-then-append c =

@@ -9,9 +9,6 @@ use mathlib.Core.Path.{ap, ◌∙◌}
 use native.Mathlib.Omega.{arith}
 use Rattle.evaluator.proofs.run_paragraphs.Goals as goal
 
-pub put_names-requires : goal.put_names-requires
-put_names-requires c = c.requires.0
-
 pub run_from-requires : goal.run_from-requires
 run_from-requires c =
     let d = c.args.doc.now in

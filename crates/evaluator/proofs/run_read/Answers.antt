@@ -2,16 +2,12 @@ use Rattle.std.proofs.lemmas.Result.{err_from_is_err_and}
 use lib.ListN.{length}
 use borrow.Author.Tests.{lt-leb, le-leb}
 use Rattle.evaluator_rules.specs.Run.{run_of, run_read, run_work, run_work_words}
-use mathlib.Core.Path.{sym, ◌∙◌}
 use native.Mathlib.Omega.{arith}
 use Rattle.evaluator.proofs.run_read.Goals as goal
 
 pub returns-then-work-lt-RUN_WORK_WORDS : goal.returns-then-work-lt-RUN_WORK_WORDS
 unfolding run_of run_read run_work
 returns-then-work-lt-RUN_WORK_WORDS c = rw (← c.read.ensures, c.in_ok-read.was, lt-leb run_work_words (length c.args.work.now) c.if-work-lt-RUN_WORK_WORDS.true)
-
-pub run_state-requires : goal.run_state-requires
-run_state-requires c = (sym c.read.ensures ∙ c.in_ok-read.was, omega arith)
 
 pub returns : goal.returns
 unfolding run_of run_read run_work

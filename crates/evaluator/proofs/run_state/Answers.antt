@@ -1,13 +1,6 @@
 use Rattle.std.proofs.lemmas.Result.{err_from_is_err_and}
 use Rattle.evaluator_rules.specs.Run.{run_state}
-use mathlib.Core.Path.{sym, ◌∙◌}
 use Rattle.evaluator.proofs.run_state.Goals as goal
-
-pub first_ill_formed-requires : goal.first_ill_formed-requires
-first_ill_formed-requires c = c.requires.0
-
-pub run_paragraphs-requires : goal.run_paragraphs-requires
-run_paragraphs-requires c = (c.requires.0, sym c.first_ill_formed.ensures ∙ c.in_ok-first_ill_formed.was, c.requires.1)
 
 pub returns : goal.returns
 unfolding run_state

@@ -29,26 +29,12 @@ returns-in_err-y c =
     let k = c.args.k in
     λ s scope g. exit_told c.from_residual.ensures.1 (plain_stops d k c.requires.0 s st st _ c.args.n c.requires.1 (sym (c.word.ensures.0 ∙ ap (λ (y : List ℕ). get_or y 2 0) c.requires.3) ∙ c.if-word-eq0.true) scope (rw (c.word-then-word-eq0.ensures.0, c.requires.3) at (c.in_err-y.ensures.told scope g)))
 
-pub put_name-requires : goal.put_name-requires
-put_name-requires c =
-    let r = c.requires.2 in
-    let f = r.few in
-    let w = r.wide in
-    (omega (arith, f, w, c.expr.auto.work), omega (arith, f), c.word-then-word-eq0-2.ensures.1, omega (arith, c.bounded.ensures.0))
-
 pub returns-then-word-eq0 : goal.returns-then-word-eq0
 returns-then-word-eq0 c =
     let d = c.args.doc.now in
     let st = c.args.state.now in
     let k = c.args.k in
     λ s scope g. plain_goes d k c.requires.0 s st st _ c.args.n c.requires.1 (sym (c.word.ensures.0 ∙ ap (λ (y : List ℕ). get_or y 2 0) c.requires.3) ∙ c.if-word-eq0.true) scope (rw (c.word-then-word-eq0.ensures.0, c.requires.3) at (c.in_ok-y.ensures.told scope g)) (λ x hx. rw (c.word-then-word-eq0-2.ensures.0, c.requires.3) at (c.put_name.ensures.told st scope x (scoped_same st _ _ c.args.n c.in_ok-y.ensures.kept g) (subst (λ (z : Held). Holds z x) (sym (c.bounded.ensures.1 x hx)) hx)))
-
-pub put_generic-requires : goal.put_generic-requires
-put_generic-requires c =
-    let r = c.requires.2 in
-    let f = r.few in
-    let w = r.wide in
-    (omega arith, omega arith, c.word-2.ensures.1)
 
 pub returns : goal.returns
 returns c =

@@ -63,12 +63,6 @@ text_count-requires c =
     let eu = c.part-u.ensures in
     axiom_text d k h q a e (said d st)
 
-pub overflow_add-n : goal.overflow_add-n
-overflow_add-n c =
-    let r = c.requires.3 in
-    let f = r.few in
-    omega (arith, f, c.text_count.ensures.1)
-
 pub demand-requires : goal.demand-requires
 demand-requires c =
     let d = c.args.doc.now in

@@ -2,15 +2,11 @@ use Prim.Native.Nat.{ℕ, ◌-◌}
 use lib.ListN.{length, get_or}
 use lib.IntN.{pos}
 use Rattle.values.specs.Value as Value
-use Rattle.states.proofs.NameLaws.{given_words}
 use Rattle.evaluator_paragraphs.proofs.StepLaws.{given_globals, axiom_text, axiom_globals, abbreviation_globals, other_globals, names_counted}
 use mathlib.Core.Path.{sym, ap, ◌∙◌}
 use mathlib.Core.List.{List}
 use native.Mathlib.Omega.{arith}
 use Rattle.evaluator_paragraphs.proofs.global_count.Goals as goal
-
-pub overflow_sub-result : goal.overflow_sub-result
-overflow_sub-result c = omega (arith, ap length c.part-w.ensures, (given_words c.args.doc.now c.args.k c.requires ((sym (c.word-q.ensures.0 ∙ ap (λ (y : List ℕ). get_or y 0 0) c.part-w.ensures)) ∙ c.in-2.is)).0)
 
 pub text_count-requires : goal.text_count-requires
 text_count-requires c =
@@ -31,5 +27,4 @@ returns-in-5 c = sym (abbreviation_globals c.args.doc.now c.args.k c.requires (�
 pub returns-in_default : goal.returns-in_default
 returns-in_default c =
     let e = c.word-q.ensures.0 ∙ ap (λ (y : List ℕ). get_or y 0 0) c.part-w.ensures in
-    let r = c.in_default.in_default-own.rest in
-    sym (other_globals c.args.doc.now c.args.k c.requires (λ z. r.0.0.1 (e ∙ z)) (λ z. r.0.1 (e ∙ z)) (λ z. r.1 (e ∙ z)))
+    sym (other_globals c.args.doc.now c.args.k c.requires (λ z. omega (arith, e, z)) (λ z. omega (arith, e, z)) (λ z. omega (arith, e, z)))

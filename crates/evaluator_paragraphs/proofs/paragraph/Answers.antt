@@ -9,12 +9,6 @@ use mathlib.Core.List.{List}
 use native.Mathlib.Omega.{arith}
 use Rattle.evaluator_paragraphs.proofs.paragraph.Goals as goal
 
-pub given-requires : goal.given-requires
-given-requires c = (c.requires.0, c.requires.1, ((sym (c.word-q.ensures.0 ∙ ap (λ (y : List ℕ). get_or y 0 0) c.part-w.ensures)) ∙ c.in-2.is), c.requires.2, c.requires.3, c.part-w.ensures)
-
-pub axiom-requires : goal.axiom-requires
-axiom-requires c = (c.requires.0, c.requires.1, ((sym (c.word-q.ensures.0 ∙ ap (λ (y : List ℕ). get_or y 0 0) c.part-w.ensures)) ∙ c.in-3.is), c.requires.2, c.requires.3, c.part-w.ensures)
-
 pub abbreviation-requires : goal.abbreviation-requires
 abbreviation-requires c =
     let d = c.args.doc.now in
@@ -35,12 +29,6 @@ demand-requires c =
     let f = r.few in
     let o = (paragraph_constraint d k c.requires.1 q (operand_at d k 1) refl).first in
     (rw (c.word.ensures.0, c.part-w.ensures) (record { at = o.at; room = omega arith; wide = r.wide }), c.requires.1.small)
-
-pub returns-in-2 : goal.returns-in-2
-returns-in-2 c = c.given.ensures
-
-pub returns-in-3 : goal.returns-in-3
-returns-in-3 c = c.«axiom».ensures
 
 pub returns-in-5 : goal.returns-in-5
 returns-in-5 c =
@@ -63,5 +51,4 @@ returns-in_default c =
     let st = c.args.state.now in
     let k = c.args.k in
     let e = c.word-q.ensures.0 ∙ ap (λ (y : List ℕ). get_or y 0 0) c.part-w.ensures in
-    let r = c.in_default.in_default-own.rest in
-    schema_steps d k c.requires.1 (said d st) st _ st c.args.n (schema_kind d k c.requires.1 (λ z. r.0.0.0.1 (e ∙ z)) (λ z. r.0.0.1 (e ∙ z)) (λ z. r.0.1 (e ∙ z)) (λ z. r.1 (e ∙ z)))
+    schema_steps d k c.requires.1 (said d st) st _ st c.args.n (schema_kind d k c.requires.1 (λ z. omega (arith, e, z)) (λ z. omega (arith, e, z)) (λ z. omega (arith, e, z)) (λ z. omega (arith, e, z)))

@@ -1,20 +1,14 @@
 use lib.ListN.{length, get_or}
 use Prim.Native.Nat.{ℕ, ◌<◌}
-use mathlib.Core.Path.{◌≡◌, refl, ap, ◌∙◌}
+use mathlib.Core.Path.{◌≡◌, ap, ◌∙◌}
 use mathlib.Core.List.{List}
 use native.Mathlib.Omega.{arith}
 use Rattle.layout.specs.Layout.{count, part}
 use Rattle.reader_rules.specs.Nodes.{operand_at}
 use Rattle.evaluator_scope.specs.Named.{said}
 use Rattle.evaluator_operations.proofs.ToldLaws.{exit_told}
-use Rattle.evaluator_paragraphs.proofs.StepLaws.{left_all, run_over, this_paragraph_lem, global_sum, declares_this, declares_others, run_stops, run_goes, run_fails}
+use Rattle.evaluator_paragraphs.proofs.StepLaws.{run_over, this_paragraph_lem, global_sum, declares_this, declares_others, run_stops, run_goes, run_fails}
 use Rattle.evaluator_paragraphs.proofs.run_from.Goals as goal
-
-pub loop-j-init : goal.loop-j-init
-loop-j-init c =
-    let a = c.args in
-    let lw = ap length c.requires.1 in
-    (refl, rw lw at c.requires.4, rw lw at c.requires.5, left_all a.doc.now (said a.doc.now a.state.now) a.state.now a.work.now a.n a.i)
 
 pub paragraph-requires : goal.paragraph-requires
 paragraph-requires c =

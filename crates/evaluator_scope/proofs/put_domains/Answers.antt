@@ -1,11 +1,8 @@
-use mathlib.Core.Path.{◌≡◌, refl, subst}
+use mathlib.Core.Path.{◌≡◌, subst}
 use Prim.Native.Nat.{ℕ, ◌+◌, ◌-◌}
 use native.Mathlib.Omega.{arith}
 use Rattle.evaluator_scope.proofs.BlockLaws.{Domained, pushed_none, pushed_more}
 use Rattle.evaluator_scope.proofs.put_domains.Goals as goal
-
-pub loop-i-init : goal.loop-i-init
-loop-i-init c = let a = c.args in let z : a.b + (a.j - a.j) ≡ a.b = omega arith in (refl, λ w p. subst (λ (b : ℕ). Domained a.work.now w a.x.now b a.j a.v) z p)
 
 pub loop-i-preserved : goal.loop-i-preserved
 loop-i-preserved c =

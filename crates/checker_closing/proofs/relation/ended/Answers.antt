@@ -1,8 +1,5 @@
-use Rattle.checker_closing.proofs.RelationLaws.{end_several, end_one}
+use Rattle.checker_closing.proofs.RelationLaws.{end_one}
 use Rattle.checker_closing.proofs.relation.ended.Goals as goal
 
 pub returns-then-close : goal.returns-then-close
 returns-then-close c = end_one c.close.ensures c.if-close.true c.close.auto.a c.wipe.ensures c.verdict_at.ensures
-
-pub returns : goal.returns
-returns c = end_several c.close.ensures c.if-close.false c.verdict_at-2.ensures

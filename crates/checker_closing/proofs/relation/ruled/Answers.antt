@@ -1,10 +1,7 @@
 use mathlib.Core.Path.{refl}
 use Rattle.checker_closing.specs.Relations.{refused}
-use Rattle.checker_closing.proofs.RelationLaws.{rule_ends, rule_fits}
+use Rattle.checker_closing.proofs.RelationLaws.{rule_fits}
 use Rattle.checker_closing.proofs.relation.ruled.Goals as goal
-
-pub ended-requires : goal.ended-requires
-ended-requires c = rule_ends c.args.q c.in-Ok.ensures refl c.requires
 
 pub returns-in-Ok : goal.returns-in-Ok
 returns-in-Ok c = rule_fits c.args.q c.in-Ok.ensures refl c.related.auto.a c.ended.ensures

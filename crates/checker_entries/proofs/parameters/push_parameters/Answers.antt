@@ -3,9 +3,6 @@ use mathlib.Core.Path.{refl}
 use Rattle.checker_entries.proofs.ParameterLaws.{parameters_done, parameters_asked, parameters_next}
 use Rattle.checker_entries.proofs.parameters.push_parameters.Goals as goal
 
-pub loop-i-init : goal.loop-i-init
-loop-i-init c = (c.requires, λ s' w' end N. N)
-
 pub loop-i-preserved : goal.loop-i-preserved
 loop-i-preserved c =
     let I = c.loop-i.invariant in

@@ -1,11 +1,5 @@
-use Rattle.checker_includes.proofs.SmallLaws.{so_far_start, so_far_asked, so_far_stop, so_far_next, so_far_end}
+use Rattle.checker_includes.proofs.SmallLaws.{so_far_stop, so_far_next, so_far_end}
 use Rattle.checker_includes.proofs.filling.rows_small.Goals as goal
-
-pub loop-j-init : goal.loop-j-init
-loop-j-init c = so_far_start _ _ _ _ _ _ c.requires
-
-pub filled_size-requires : goal.filled_size-requires
-filled_size-requires c = so_far_asked _ _ _ _ _ _ _ c.loop-j-test.true c.loop-j.invariant _ c.word.ensures.0
 
 pub returns-then-filled_size-gt-SIZE : goal.returns-then-filled_size-gt-SIZE
 returns-then-filled_size-gt-SIZE c = so_far_stop _ _ _ _ _ _ _ c.loop-j-test.true c.loop-j.invariant _ c.word.ensures.0 _ c.filled_size.ensures.0 c.if-filled_size-gt-SIZE.true

@@ -1,8 +1,5 @@
-use Rattle.checker_includes.proofs.KeepRow.{row_found, row_asked, row_fresh}
+use Rattle.checker_includes.proofs.KeepRow.{row_asked, row_fresh}
 use Rattle.checker_includes.proofs.storing.keep_row.Goals as goal
-
-pub returns-then-f-m : goal.returns-then-f-m
-returns-then-f-m c = row_found _ _ _ _ _ _ _ _ _ c.requires _ _ c.word.ensures.0 c.find-f.ensures c.if-f-m.true _ c.word-p.ensures.0 _ c.store.ensures
 
 pub write_instance-z-requires : goal.write_instance-z-requires
 write_instance-z-requires c = row_asked _ _ _ _ _ _ _ _ _ c.requires _ c.word-p-2.ensures.0

@@ -1,8 +1,5 @@
-use Rattle.checker_includes.proofs.KeptLaws.{all_asked, move_asked, rows_kept}
+use Rattle.checker_includes.proofs.KeptLaws.{move_asked, rows_kept}
 use Rattle.checker_includes.proofs.storing.keep_rows.Goals as goal
-
-pub keep_all-e-requires : goal.keep_all-e-requires
-keep_all-e-requires c = all_asked _ _ _ _ _ _ _ _ _ _ _ c.requires
 
 pub move_words-requires : goal.move_words-requires
 move_words-requires c = move_asked _ _ _ _ _ _ _ _ _ _ _ c.requires _ _ c.keep_all-e.ensures

@@ -1,7 +1,4 @@
-use mathlib.Core.Path.{◌≡◌, refl, subst, ◌∙◌}
-use Prim.Native.Nat.{ℕ}
-use native.Mathlib.Omega.{arith}
-use Rattle.checker_lookup.specs.Bindings.{RowsPut}
+use mathlib.Core.Path.{refl, ◌∙◌}
 use Rattle.checker_lookup.proofs.BindingLaws.{rows_start, rows_ask, rows_next}
 use Rattle.checker_lookup.proofs.bindings.put_rows.Goals as goal
 
@@ -13,9 +10,3 @@ put_row-requires c = (rows_ask _ _ _ _ _ _ _ c.requires _ _ c.loop-j-test.true c
 
 pub loop-j-preserved : goal.loop-j-preserved
 loop-j-preserved c = (c.put_row.auto.a ∙ c.loop-j.invariant.0, rows_next _ _ _ _ _ _ _ c.requires _ _ c.loop-j-test.true c.loop-j.invariant.1 _ _ c.word.ensures.0 c.put_row.ensures)
-
-pub shape_of-a : goal.shape_of-a
-shape_of-a c = c.loop-j.invariant.0
-
-pub returns : goal.returns
-returns c = let a = c.args in let z : c.loop-j.j ≡ a.m = omega arith in subst (λ (j : ℕ). RowsPut a.a.now c.loop-j.a a.w.now a.base a.m a.first a.n a.top j) z c.loop-j.invariant.1

@@ -1,8 +1,5 @@
-use Rattle.checker_lookup.proofs.AppliedLaws.{powering, applied_not, applied_ask, applied}
+use Rattle.checker_lookup.proofs.AppliedLaws.{applied_not, applied_ask, applied}
 use Rattle.checker_lookup.proofs.references.applied.Goals as goal
-
-pub are_powers-number-requires : goal.are_powers-number-requires
-are_powers-number-requires c = powering _ _ _ _ _ _ _ c.requires
 
 pub returns-then-number-ne0 : goal.returns-then-number-ne0
 returns-then-number-ne0 c = record { is = (c.if-number-ne0.true, λ g l. applied_not _ _ _ _ _ _ _ c.requires _ _ c.are_powers-number.ensures c.if-number-ne0.true g.cell g.cells g.top) }

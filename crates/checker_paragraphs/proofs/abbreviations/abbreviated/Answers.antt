@@ -1,12 +1,6 @@
-use Rattle.checker_paragraphs.proofs.AbbreviationLaws.{type_fine, told_unvisited, told_refused}
+use Rattle.checker_paragraphs.proofs.AbbreviationLaws.{type_fine, told_refused}
 use Rattle.checker_paragraphs.specs.Abbreviations.{entered}
 use Rattle.checker_paragraphs.proofs.abbreviations.abbreviated.Goals as goal
-
-pub returns-then-x-ne0 : goal.returns-then-x-ne0
-returns-then-x-ne0 c = told_unvisited c.if-x-ne0.true c.unlined.ensures
-
-pub type_finding-number-requires : goal.type_finding-number-requires
-type_finding-number-requires c = c.requires.2.type c.if-x-ne0.false
 
 pub returns-then-number-ne0 : goal.returns-then-number-ne0
 returns-then-number-ne0 c = told_refused c.if-x-ne0.false c.type_finding-number.ensures c.if-number-ne0.true c.lined_at.ensures

@@ -1,4 +1,4 @@
-use Rattle.checker_paragraphs.proofs.AbbreviationLaws.{words_end, entry_made}
+use Rattle.checker_paragraphs.proofs.AbbreviationLaws.{words_end}
 use native.Mathlib.Omega.{arith}
 use Rattle.checker_paragraphs.proofs.abbreviations.enter.Goals as goal
 
@@ -10,6 +10,3 @@ overflow_sub-e-2 c = let y = words_end c.requires.0 c.settled_words-e.ensures in
 
 pub put_head-requires : goal.put_head-requires
 put_head-requires c = let y = words_end c.requires.0 c.settled_words-e.ensures in let z = y.1 in (omega arith, omega arith, omega arith, c.word.ensures.1, c.requires.1)
-
-pub returns : goal.returns
-returns c = entry_made _ _ c.settled_words-e.ensures c.word.ensures.0 c.put_head.ensures c.wipe.ensures

@@ -1,5 +1,5 @@
-use Rattle.checker_paragraphs.proofs.Defined.{schema_parameters, schema_ask, schema_stops, schema_rows_lem, schema_low, schema_end, schema_told}
-use Rattle.checker_paragraphs.proofs.ParagraphNodes.{node_small, all_parameters}
+use Rattle.checker_paragraphs.proofs.Defined.{schema_parameters, schema_ask, schema_stops, schema_rows_lem, schema_low, schema_told}
+use Rattle.checker_paragraphs.proofs.ParagraphNodes.{all_parameters}
 use mathlib.Core.Path.{refl}
 use native.Mathlib.Omega.{arith}
 use Rattle.checker_paragraphs.proofs.paragraphs.schema_paragraph.Goals as goal
@@ -15,18 +15,6 @@ returns-then-t-ne0 c = schema_stops c.requires.0 c.requires.2 c.word-n.ensures.0
 
 pub schema_entry-requires : goal.schema_entry-requires
 schema_entry-requires c = (schema_rows_lem c.requires.0 c.requires.2 c.word-n.ensures.0 c.requires.1 c.word.ensures.0 refl (all_parameters c.args.p.now c.push_parameters-at.ensures) c.schema-t.ensures c.if-t-ne0.false, let l = schema_low c.requires.0 c.requires.2 c.word-n.ensures.0 c.requires.1 c.word.ensures.0 refl (all_parameters c.args.p.now c.push_parameters-at.ensures) c.schema-t.ensures c.if-t-ne0.false in omega arith, c.word-2.ensures.1, c.word-n.ensures.1)
-
-pub wipe-requires : goal.wipe-requires
-wipe-requires c = schema_end c.requires.0 c.requires.2 c.word-n.ensures.0 c.requires.1 c.word.ensures.0 refl (all_parameters c.args.p.now c.push_parameters-at.ensures) c.schema-t.ensures c.if-t-ne0.false
-
-pub lined_at-requires : goal.lined_at-requires
-lined_at-requires c = node_small c.requires.0
-
-pub shape_of-a : goal.shape_of-a
-shape_of-a c = omega (arith, c.wipe.auto.a, c.schema-t.auto.a, c.push_parameters-at.auto.a)
-
-pub shape_of-w : goal.shape_of-w
-shape_of-w c = omega (arith, c.schema_entry.auto.w, c.schema-t.auto.w, c.push_parameters-at.auto.w)
 
 pub returns : goal.returns
 returns c = schema_told c.requires.0 c.requires.2 c.word-n.ensures.0 c.requires.1 c.word.ensures.0 c.word-2.ensures.0 (all_parameters c.args.p.now c.push_parameters-at.ensures) c.schema-t.ensures c.if-t-ne0.false c.schema_entry.ensures c.wipe.ensures c.lined_at.ensures

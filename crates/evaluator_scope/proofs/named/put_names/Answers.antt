@@ -1,4 +1,4 @@
-use mathlib.Core.Path.{◌≡◌, refl, sym, subst}
+use mathlib.Core.Path.{◌≡◌, sym, subst}
 use Prim.Native.Nat.{ℕ, ◌+◌, ◌-◌}
 use native.Mathlib.Omega.{arith}
 use Rattle.reader_rules.specs.Decode.{tree_of}
@@ -6,12 +6,6 @@ use Rattle.states_rules.specs.Names.{document_names}
 use Rattle.evaluator_scope.specs.Named.{Among, said}
 use Rattle.evaluator_scope.proofs.NamedLaws.{Puts, put_none, put_more, declares_here, declares_later}
 use Rattle.evaluator_scope.proofs.named.put_names.Goals as goal
-
-pub loop-i-init : goal.loop-i-init
-loop-i-init c =
-    let a = c.args in
-    let z : a.b + (a.j - a.j) ≡ a.b = omega arith in
-    (refl, c.requires.1, λ w p. subst (λ (b : ℕ). Puts a.state.now a.work.now w a.w.now b a.j (said a.doc.now a.state.now)) z p)
 
 pub put_stated-requires : goal.put_stated-requires
 put_stated-requires c =

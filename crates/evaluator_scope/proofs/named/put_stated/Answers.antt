@@ -21,6 +21,3 @@ returns-then-word-eq0 c scope g = c.put_entry.ensures.told _ scope (said c.args.
 
 pub put_name-requires : goal.put_name-requires
 put_name-requires c = let h = c.held_name.ensures in (omega (arith, c.requires.2, c.requires.3), omega (arith, c.requires.2), c.requires.4, omega (arith, held_len _ _ h.words h.short, h.short))
-
-pub returns : goal.returns
-returns c scope g = c.put_name.ensures.told _ scope (said c.args.doc.now c.args.state.now c.args.name) g c.held_name.ensures
