@@ -34,9 +34,9 @@ newest_none f zero h = refl
 newest_none f (suc k) h = absurd (omega arith)
 
 -- the search that passes no entry
-pub newest_whole : (f : ℕ → Bool) (n : ℕ) (o : Option ℕ) → MatchOption o (newest f n ≡ newest f (n - (n - 0))) (λ k. k ≡ newest f n) → unwrap_or o 0 ≡ newest f n
+pub newest_whole : (f : ℕ → Bool) (n : ℕ) (o : Option ℕ) → MatchOption o (newest f n ≡ newest f (n - (n - 0))) (λ k. (k ≡ newest f n) × (0 < k)) → unwrap_or o 0 ≡ newest f n
 newest_whole f n None e = newest_none f (n - (n - 0)) (omega arith) ∙ sym e
-newest_whole f n (Some k) e = e
+newest_whole f n (Some k) e = e.0
 
 -- the parts of an entry
 unfoldable class_of : Entry → ℕ

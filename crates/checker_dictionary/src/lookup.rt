@@ -58,7 +58,7 @@ pub fn is_entry(d: &[u32], class: usize, name: usize, k: usize) -> bool
 
 // The newest entry of a class with a name, if one of the entries after the first `low` is one.
 pub fn newest_after(d: &[u32], class: usize, name: usize, low: usize) -> Option<usize>
-    ensures { let f = is_entry d.now class name in let n = count d.now in MatchOption result (newest f n ≡ newest f (n - (n - low))) (λ k. k ≡ newest f n) }
+    ensures { let f = is_entry d.now class name in let n = count d.now in MatchOption result (newest f n ≡ newest f (n - (n - low))) (λ k. (k ≡ newest f n) × (low < k)) }
 {
     for k in (low..word(d, 0)).rev() {
         if is_entry(d, class, name, k + 1) {
